@@ -36,7 +36,7 @@ ENSURES = re.compile(r"\bensures\s*\*?\s*(\w+)\s*\{")
 GHOST = re.compile(r"\b(?:ghost|struct|enum|trait)\s+(\w+)\s*[:={<(]")
 DEFINED = re.compile(r"^\s*(?:(?:abbrev|unfoldable|record|data)\s+)*pub\s+(?:record\s+)?(\w+)", re.M)
 WORDS_OF_NO_CLAUSE = {"ensures", "requires", "result"}
-MOST_WORDS = 55_700
+MOST_WORDS = 56_400
 MOST_WORDS_OF_GUIDES = 26_000  # of docs/, README.md and CONTRIBUTING.md
 RUN = ["README.md", "docs/TOUR.md", "docs/FORMATS.md", "docs/AUDITING.md"]
 FILE = re.compile(r"[\w./-]+\.(?:rt|antt|py|sh|c|h|md|txt|session|acts|transcript|trial|shown|edit)")

@@ -174,8 +174,60 @@ def disable_in_time():
     return session
 
 
+def without_effect():
+    """What is asked too early or out of range does nothing; what is asked rightly beside it does."""
+    session = Session()
+    session.join("app", *application())
+    session.join("method", *input_method())
+    session.say("unfocus")
+    session.send(1, enable())
+    session.say("focus 1 6", "focus 1 6")
+    session.send(1, enable(), cursor_rectangle(0, 0, -1, 20), cursor_rectangle(0, 0, 1, 20), commit())
+    session.send(2, commit_string("hi"), commit_batch(1), commit_batch(9))
+    session.say("key 100 30 1", "key 110 30 0", "take 1 100", "gone 2")
+    session.send(1, message(7, 99))
+    return session
+
+
+def every_line():
+    """Something of each kind that `explain` has words for: requests, keys, batches, what is refused, what ends."""
+    session = Session(store=700, form=2)
+    app = session.join("app", *application())
+    method = session.join("keyed", *keyed_method())
+    session.say("keymap 1 9 100", "repeat 25 600", "screen 1024 768", f"area {app} 6 0 0 800 600")
+    session.say("unfocus", f"focus {app} 3")
+    session.send(app, enable())
+    session.say(f"focus {app} 6", f"focus {app} 6")
+    session.send(app, enable(), surrounding("\u00e9", 1, 0), cursor_rectangle(0, 0, -1, 20), commit())
+    session.say(f"take {app} 4096", f"take {method} 4096")
+    session.send(method, preedit("a", 1, 1), commit_batch(1), commit_batch(9))
+    session.say("key 10 30 1")
+    session.send(method, message(5, 5, word(8)))
+    session.say("key 20 30 0", "key 30 31 1", "mods 1 0 0 0", f"tokens {method} 9")
+    session.send(method, board_keymap(1, 100), board_key(40, 28, 1), message(8, 0))
+    session.say("key 50 31 0", f"take {method} 4096")
+    for wrong in [message(77, 0), message(1, 9), message(1, 1), message(1, 1, word(1)),
+                  message(2, 0, word(9), text("wl_seat"), word(1), word(3))]:
+        peer = session.join("app", message(1, 1, word(2)))
+        session.send(peer, wrong)
+    for wrong in [message(5, 1, word(8), word(6)), message(4, 0, word(8))]:
+        peer = session.join("app", *application())
+        session.send(peer, wrong)
+    keyed = session.join("keyed", *keyed_method())
+    session.send(keyed, board_key(60, 28, 1))
+    torn = session.join("app")
+    session.say(f"bytes {torn} 0100000001000400")
+    gone = session.join("app")
+    session.say(f"bytes {gone} 0100000001000c", f"gone {gone}")
+    session.send(app, disable(), commit(), enable(), commit())
+    for letter in "ab":
+        session.send(method, commit_string(500 * letter), commit_batch(3))
+    session.say(f"gone {method}")
+    return session
+
+
 STORIES = [stale_serial, field_loses_the_seat, peer_that_stops_reading, preedit_and_deletion, keys_through_a_grab,
-           key_given_back, popup_at_the_edge, hostile_peer, disable_in_time]
+           key_given_back, popup_at_the_edge, hostile_peer, disable_in_time, without_effect, every_line]
 
 
 def read(path):

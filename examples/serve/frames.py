@@ -54,14 +54,14 @@ def read_frame(link):
 class Server:
     """`wlim serve` in a folder of its own, or in that of one which is gone, with a link for each letter."""
 
-    def __init__(self, program, order, options=(), folder=None):
+    def __init__(self, program, order, options=(), folder=None, output=None):
         self.folder = folder or tempfile.mkdtemp(prefix="wlim-")
         self.paths = {door: os.path.join(self.folder, door) for door in ("app", "method", "shell")}
         words = [program, "serve", "--order", order]
         for door, path in self.paths.items():
             words += ["--" + door, path]
         self.words = words + list(options)
-        self.session = open(os.path.join(self.folder, "session"), "w+b")
+        self.session = output or open(os.path.join(self.folder, "session"), "w+b")
         self.process = subprocess.Popen(self.words, stdout=self.session, stderr=subprocess.DEVNULL)
 
     def connect(self, letter):

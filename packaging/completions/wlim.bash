@@ -18,9 +18,9 @@ _wlim() {
 		--app | --method | --shell)
 			COMPREPLY=($(compgen -f -- "$word"))
 			;;
-		--order | --entries | --store | --weight) ;;
+		--order | --entries | --store | --weight | --wait) ;;
 		*)
-			COMPREPLY=($(compgen -W "--app --method --shell --order --entries --store --weight" -- "$word"))
+			COMPREPLY=($(compgen -W "--app --method --shell --order --entries --store --weight --wait" -- "$word"))
 			;;
 		esac
 		;;

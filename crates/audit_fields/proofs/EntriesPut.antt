@@ -14,7 +14,7 @@ use Rattle.broker_model.specs.Resolve.{past_of, resolve}
 use Rattle.broker_model.specs.Groups.{Piece, pair_of, followed_by}
 use Rattle.broker_model.specs.Out.{Outgoing, act_at, group_at, fits, before_group, out_for}
 use Rattle.broker_model.proofs.EachElement.{each_append}
-use Rattle.broker_audience.specs.Lives.{Numbered}
+use Rattle.broker_core.specs.Lives.{Numbered}
 use Rattle.broker_core.specs.Stands.{numbered}
 use Rattle.broker_core.specs.Watched.{Watched, shown, shown_by, group_put, out_put, told_of}
 use Rattle.broker_core.specs.Watched.Watched.{Put}

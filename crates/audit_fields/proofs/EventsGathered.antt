@@ -3,7 +3,7 @@ use Rattle.std.proofs.Common.{◌≡◌, ℕ, zero, suc, ◌-◌, Bool, true, fa
 use Rattle.std.specs.Prelude.{if◌then◌else◌, ◌==◌}
 use Rattle.std.specs.List.{slice_get, flat_map, AllByRecursion}
 use Rattle.std.proofs.lemmas.Bool.{eq-eqb, ne_eqb, eqb-true}
-use Rattle.relay_objects.specs.Reached.{Reached}
+use Rattle.broker_core.specs.Reached.{Reached}
 use Rattle.broker_core.specs.Watched.{Watched}
 use Rattle.broker_core.specs.Watched.Watched.{Entered, Placed, Passed, Modified, Put}
 use Rattle.audit_fields.specs.declared.side.Side.{Side}

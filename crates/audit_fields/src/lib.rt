@@ -14,3 +14,4 @@ mod side;
 
 pub use comparison::{Comparison, HearEnd};
 pub use gatherer::Gatherer;
+pub use wl_proto::Event;

@@ -7,7 +7,7 @@ use Rattle.std.specs.Ordering.{int_eq}
 use Rattle.std.specs.Str.{bytes_eq}
 use Rattle.std.proofs.lemmas.Bool.Decides.{Decides-and, Decides-like, Decides-eqb, Decides-int_eq}
 use Rattle.std.proofs.lemmas.Slice.Eq.{bytes_eq-Decides}
-use Rattle.wl_wire.specs.Messages.{id_of, opcode_of, body_of, messages, bad_size}
+use Rattle.wl_proto.specs.Messages.{id_of, opcode_of, body_of, messages, bad_size}
 use Rattle.wl_proto.specs.declared.interface.Interface.{Interface}
 use Rattle.wl_proto.specs.declared.interface.Interface.TheVariants.{TextInput}
 use Rattle.wl_proto.specs.declared.refuse.Refuse.{Refuse}

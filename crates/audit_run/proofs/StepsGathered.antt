@@ -3,7 +3,7 @@ use Rattle.std.proofs.Common.{◌≡◌, ℕ, false, List, length, Ok, Err, ap, 
 use Rattle.broker_steps.specs.declared.limits.Limits.{Limits}
 use Rattle.broker_steps.specs.Ranges.{store_limit}
 use Rattle.session_text.specs.declared.line.SessionLine.{SessionLine}
-use Rattle.relay_objects.specs.Reached.{Reached}
+use Rattle.broker_core.specs.Reached.{Reached}
 use Rattle.broker_core.specs.Watched.{watched_since}
 use Rattle.seat_set.specs.declared.session.Stop.{Stop}
 use Rattle.seat_set.specs.declared.session.Stop.TheVariants as stops

@@ -6,12 +6,12 @@ use crate::AuditLine;
 use crate::taking::play_step;
 use audit_fields::{Gatherer, HearEnd};
 use broker_core::Journal;
+use broker_model::NoMemory;
 use broker_steps::{ENTRY_LIMIT, Limits, STORE_LIMIT, WEIGHT_LIMIT};
 use seat_set::{Kept, Player, Stop};
 use std::alloc::Global;
 use std::marker::Model;
 use thiserror::Error;
-use wio_core::NoMemory;
 
 /// Why an audit doesn't go on.
 #[derive(Clone, Copy, Debug, PartialEq, Eq, Error)]

@@ -12,7 +12,7 @@ ghost use Rattle.audit_run.specs.Laws.{ReadsOnlySpellings, ReadsEachSpelling};
 use broker_steps::Stamp;
 use session_text::{BadLine, Form, Line, SessionLine, read_line};
 use std::alloc::Global;
-use wl_wire::Bytes;
+use wl_proto::Bytes;
 
 /// A line of an audit between its header and its end.
 #[derive(Debug, Drop)]

@@ -1,13 +1,12 @@
 //! Peers of a hub, and readers that race for it.
 ghost use Rattle.std.specs.Prelude.{◌≡◌, IfSome};
-ghost use Rattle.turn_lock.specs.Pairs.{NoneOf};
+ghost use Rattle.hub_lock.specs.Pairs.{NoneOf};
 ghost use Rattle.broker_steps.specs.Ranges.{IsPeerStep};
 ghost use Rattle.hub_lock.specs.Passes.{IsOf};
 
 use crate::clock::since;
-use broker_steps::{FORM_1_WEIGHT, Limits, PeerStep};
+use broker_steps::{FORM_1_WEIGHT, Limits, PeerStep, Role};
 use hub_lock::{Hub, HubPass, ReaderPass, WriterPass};
-use relay_model::Role;
 use std::alloc::Global;
 use std::sync::Wait;
 use std::thread::{Threads, map_vec};

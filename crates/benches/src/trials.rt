@@ -8,8 +8,7 @@ use std::sync::Wait;
 use std::thread::Threads;
 use std::time::{Clock, Duration};
 use std::{io, thread};
-use trial_run::run_trial;
-use trial_threads::run_trial_threads;
+use trial_threads::{run_trial, run_trial_threads};
 
 /// Holds the first edit of the first field so long.
 #[derive(Drop)]

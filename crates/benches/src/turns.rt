@@ -1,11 +1,11 @@
 //! Threads that race for a turn lock, or for std's mutex, around a sum.
 ghost use Rattle.std.specs.Prelude.{◌≡◌, ◌+◌, ◌<◌, ◌^◌, []};
-ghost use Rattle.turn_lock.specs.Sights.{after_split};
+ghost use Rattle.hub_lock.specs.Sights.{after_split};
 
+use hub_lock::{Seat, Story, Turn};
 use std::alloc::Global;
 use std::sync::{Mutex, Wait};
 use std::thread::{Threads, map_indices, map_vec};
-use turn_lock::{Seat, Story, Turn};
 
 /// What a turn adds.
 #[derive(Drop)]

@@ -12,7 +12,7 @@ use std::sync::atomic::{AtomicU64, Ordering};
 use std::thread;
 use std::thread::{Threads, join, map_vec};
 use std::time::{Clock, Duration, Instant};
-use wio_core::{Failed, Sink};
+use wl_wire::{Failed, Sink};
 
 /// `sync`, which is answered by 24 bytes.
 const SYNC: &[u8] = b"\x01\0\0\0\0\0\x0c\0\x05\0\0\0";

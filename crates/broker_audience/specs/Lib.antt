@@ -8,3 +8,6 @@ pub mod Marks
 pub mod Visits
 pub mod Seated
 pub mod Lent
+pub use Rattle.broker_wire.specs.declared.meaning.Meaning
+pub use Rattle.relay_objects.specs.Fits
+pub use Rattle.im_objects.specs.Calls

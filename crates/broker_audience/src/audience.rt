@@ -17,8 +17,7 @@ ghost use Rattle.broker_audience.specs.Changes.{IsChangedAt};
 
 use crate::directory::{Directory, Named};
 use crate::listeners::Listeners;
-use broker_wire::{Meaning, event_of, named, token_of};
-use relay_core::Post;
+use broker_wire::{Meaning, Post, event_of, named, token_of};
 use relay_model::{Label, Said, Told};
 use wio_core::NoMemory;
 use wl_proto::event_len;

@@ -17,3 +17,4 @@ pub use directory::{Directory, Named};
 pub use gathering::Gathering;
 pub use listeners::Listeners;
 pub use live::Live;
+pub use out_store::Past;

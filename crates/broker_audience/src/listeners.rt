@@ -24,7 +24,7 @@ use crate::directory::Named;
 use crate::live::Live;
 use crate::marks::Marks;
 use crate::roster::Roster;
-use broker_steps::TokenList;
+use broker_model::TokenList;
 use broker_wire::Meaning;
 use relay_model::{EndCause, Label};
 use std::alloc::Global;

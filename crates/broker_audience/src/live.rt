@@ -10,7 +10,7 @@ ghost use Rattle.broker_audience.specs.Visits.{rewritten};
 
 use crate::changes::change;
 use crate::gathering::Gathering;
-use broker_steps::{TOKEN_LIMIT, TokenList};
+use broker_model::{TOKEN_LIMIT, TokenList};
 use broker_wire::Meaning;
 use im_objects::Table;
 use out_store::Store;

@@ -45,3 +45,5 @@ pub mod AcceptedIds
 mod TokensThatWait
 pub mod StampsOfCalls
 pub mod StoresGivenBack
+pub use Rattle.relay_core.proofs.ActsTell
+pub use Rattle.relay_objects.proofs.TellsAppend

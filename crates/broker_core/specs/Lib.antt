@@ -5,3 +5,5 @@ pub mod Taking
 pub mod Broker
 pub mod Ends
 pub mod Calls
+pub use Rattle.broker_audience.specs.Lives
+pub use Rattle.relay_objects.specs.Reached

@@ -7,7 +7,7 @@ use Rattle.wl_wire.specs.declared.assembler.Fed.TheVariants as fed
 use Rattle.wl_wire.specs.Streams.{Assembly, begun, bytes_of, HasTold, Feeds}
 use Rattle.wl_wire.proofs.SizeInHeader.{size_stays}
 use Rattle.wl_wire.proofs.FirstMessages.{messages_next, messages_none, behind_next, behind_none, bad_size_next, bad_size_none, whole_is, part_none, bad_none}
-use Rattle.broker_steps.specs.Ranges.{IsBody}
+use Rattle.broker_model.specs.Ranges.{IsBody}
 use Rattle.broker_model.specs.declared.journal.Entry.{Entry}
 use Rattle.broker_model.specs.declared.journal.Entry.TheVariants as entries
 use Rattle.broker_cutter.specs.Steps.{message_entry, bad_entries, steps_in}

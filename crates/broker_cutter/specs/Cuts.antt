@@ -2,7 +2,7 @@
 use Rattle.std.specs.Prelude.{◌≡◌, ℕ, ◌<◌, ◌≤◌, List, [], ◌∷◌, ◌++◌, length, drop, None}
 use Rattle.wl_wire.specs.Messages.{id_of, opcode_of, body_of, behind, bad_size_at, IsBad}
 use Rattle.wl_wire.specs.Streams.{Assembly, begun, bytes_of, HasMessage}
-use Rattle.broker_steps.specs.Ranges.{IsBody}
+use Rattle.broker_model.specs.Ranges.{IsBody}
 use Rattle.broker_model.specs.declared.journal.Entry.TheVariants as entries
 use Rattle.broker_cutter.specs.declared.cutter.Cut.{Cut}
 use Rattle.broker_cutter.specs.declared.cutter.Cut.TheVariants as cut

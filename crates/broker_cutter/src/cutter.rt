@@ -4,9 +4,9 @@ ghost use Rattle.wl_wire.specs.Messages.{id_of, opcode_of, body_of};
 ghost use Rattle.wl_wire.specs.Streams.{Begun, begun, bytes_of, HasMessage};
 ghost use Rattle.broker_cutter.specs.Cuts.{IsFirst, Cuts};
 
+use broker_model::NoMemory;
 use std::alloc::Global;
 use std::marker::Model;
-use wio_core::NoMemory;
 use wl_wire::{Assembler, Fed, Front, Raw, front_of};
 
 /// The next step that a piece gives, behind the bytes that wait.

@@ -21,3 +21,9 @@ pub mod Living
 pub mod Enough
 pub mod Kept
 pub mod Ends
+pub mod Growth
+pub mod MessageEntries
+pub use Rattle.out_store.specs.Long
+pub use Rattle.broker_steps.specs.Ranges
+pub use Rattle.broker_steps.specs.declared.step.ShellStep
+pub use Rattle.im_objects.specs.Objects

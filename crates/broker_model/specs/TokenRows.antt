@@ -6,7 +6,6 @@ use Rattle.wl_proto.specs.Reading.{values_at}
 use Rattle.relay_model.specs.declared.act.Act.TheVariants as acts
 use Rattle.relay_model.specs.declared.role.Role.TheVariants as roles
 use Rattle.broker_steps.specs.declared.limits.Limits.{Limits}
-use Rattle.broker_steps.specs.declared.stamp.Stamp.{Stamp}
 use Rattle.broker_steps.specs.declared.step.ShellStep.TheVariants as shell
 use Rattle.broker_model.specs.declared.journal.Entry.{Entry}
 use Rattle.broker_model.specs.declared.journal.Entry.TheVariants.{Join, Tokens, Shell}
@@ -16,6 +15,7 @@ use Rattle.broker_model.specs.Limits.{is_full}
 use Rattle.broker_model.specs.Settle.{history}
 use Rattle.broker_model.specs.Stamps.{stamps}
 use Rattle.broker_model.specs.Rows.{sent, after, asked}
+pub use Rattle.broker_steps.specs.StampRows.{stamp}
 
 -- an application sends two tokens
 abbrev pub with_two : List Entry
@@ -49,9 +49,6 @@ FirstIsTaken =
     × (values_at [] (Descriptor ∷ []) [] ≡ None)
     × (without_taken (has_descriptor (Some (Uint ∷ Descriptor ∷ Uint ∷ []))) (7 ∷ 8 ∷ [])
     ≡ (8 ∷ []))
-
-abbrev pub stamp : ℕ → ℕ → Stamp
-stamp moment author = record { moment = moment; author = author }
 
 -- a moment that the shell says is that of its entry, and none falls
 abbrev pub MomentsAreSaid : Type 0

@@ -16,11 +16,14 @@ ghost use Rattle.broker_model.specs.Living.{ActsTellLiving, EntriesTellLiving};
 ghost use Rattle.broker_model.specs.Enough.{EnoughTellsAll, DeadCanGo};
 ghost use Rattle.broker_model.specs.Kept.{KeptIsEnough};
 
+pub use broker_steps::{ShellStep, TOKEN_LIMIT, TokenList};
 pub use ended_peers::EndedPeers;
+pub use im_objects::{LAST_ID, MOST_LIVE, Table};
 pub use journal::{Entry, Journal, Kept};
 pub use laws::{board_law, relay_law, stamp_law, store_law, table_law, token_law};
 pub use rows::{base_session, board_sessions, small_sessions, tokens_and_stamps};
 pub use stamps::StampList;
+pub use wio_core::NoMemory;
 
 /// What an act tells, after any acts, goes to the shell, to an object that is alive before the act
 /// or to the one that it makes, and names such objects alone. Of an error this is asked: it must be

@@ -9,6 +9,8 @@ mod tokens;
 pub use limits::{
     ENTRY_LIMIT, FORM_1_ENTRY_LIMIT, FORM_1_WEIGHT, Limits, STORE_LIMIT, WEIGHT_LIMIT,
 };
+pub use relay_model::{EndCause, Role};
 pub use stamp::Stamp;
 pub use step::{PeerStep, ShellStep, Step};
 pub use tokens::{TOKEN_LIMIT, TokenList};
+pub use wl_wire::{Bytes, NoMemory};

@@ -2,8 +2,7 @@
 use crate::tokens::TokenList;
 use relay_model::{Keymap, Mods, Rect, Repeat, Role, Size};
 use std::alloc::Global;
-use wio_core::NoMemory;
-use wl_wire::Bytes;
+use wl_wire::{Bytes, NoMemory};
 
 /// One step of a session. Peers are numbered from 1 in the order in which they join.
 #[derive(Debug, Drop)]

@@ -1,7 +1,7 @@
 //! The tokens of descriptors that a peer sent.
 use std::alloc::Global;
 use std::marker::Model;
-use wio_core::NoMemory;
+use wl_wire::NoMemory;
 
 /// The most tokens that one frame carries, and so one step.
 pub const TOKEN_LIMIT: usize = 256;

@@ -2,7 +2,7 @@
 use Rattle.std.proofs.Common.{◌≡◌, ℕ, List, [], ◌∷◌, ◌++◌, map, Bool, true, false, Option, Some, None, refl}
 use Rattle.std.specs.Prelude.{◌==◌, ◌&&◌, length, filter, is_some}
 use Rattle.std.specs.List.{AllByRecursion}
-use Rattle.popup_place.specs.declared.geometry.Rect.{Rect}
+use Rattle.relay_model.specs.Rect.{Rect}
 use Rattle.relay_model.specs.declared.act.Act.{Act}
 use Rattle.relay_model.specs.declared.act.Act.TheVariants as acts
 use Rattle.relay_model.specs.declared.said.Told.{Told}

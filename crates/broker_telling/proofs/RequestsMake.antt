@@ -22,8 +22,8 @@ use Rattle.relay_model.specs.Idle.{is_live}
 use Rattle.relay_model.proofs.ActsOrIdle.{history_is}
 use Rattle.broker_steps.specs.declared.step.ShellStep.{ShellStep}
 use Rattle.broker_steps.specs.declared.step.ShellStep.TheVariants as shell
-use Rattle.im_objects.specs.Calls.{Call}
-use Rattle.im_objects.specs.Calls.Call.{Make}
+use Rattle.broker_audience.specs.Calls.{Call}
+use Rattle.broker_audience.specs.Calls.Call.{Make}
 use Rattle.broker_model.specs.declared.journal.Entry.{Entry}
 use Rattle.broker_model.specs.declared.journal.Entry.TheVariants as entries
 use Rattle.broker_model.specs.Ids.{Made, Joined, Past, log_of, peer_at, object_at}
@@ -37,7 +37,7 @@ use Rattle.broker_model.proofs.IdsAreNames.{IsFound, found}
 use Rattle.broker_model.proofs.LivePeersJoined.{plain_row}
 use Rattle.broker_model.proofs.MadeObjectsStand.{sound}
 use Rattle.broker_model.proofs.OwnersLive.{owner_lives}
-use Rattle.broker_wire.specs.declared.meaning.Meaning as declared
+use Rattle.broker_audience.specs.Meaning as declared
 use Rattle.broker_audience.specs.Changes.{own_calls}
 use Rattle.broker_core.proofs.MessageCalls.{calls_own}
 use Rattle.broker_core.proofs.OwnObjectDropped.{DropsOnly, drops_only}

@@ -14,7 +14,7 @@ use Rattle.broker_model.specs.Out.{act_at}
 use Rattle.broker_model.proofs.EachElement.{each_weaker}
 use Rattle.broker_model.proofs.IdsAreNames.{made_with}
 use Rattle.broker_model.proofs.LivePeersJoined.{length_log}
-use Rattle.relay_objects.specs.Fits.{FitsMessage}
+use Rattle.broker_audience.specs.Fits.{FitsMessage}
 use Rattle.broker_audience.specs.Tells.{IsShort}
 use Rattle.broker_core.proofs.ActTextsFit.{IsBodyShort, act_fits}
 use Rattle.broker_core.proofs.ToldMessagesFit.{all_short}

@@ -5,7 +5,7 @@ use Rattle.std.specs.Int.{w32, saturate_signed}
 use Rattle.std.specs.List.{AllByRecursion}
 use Rattle.std.proofs.Math.Facts.{Fits-nat_abs}
 use Rattle.wl_wire.proofs.TextsKnown.{is_text-nil}
-use Rattle.popup_place.specs.declared.geometry.Rect.{Rect}
+use Rattle.relay_model.specs.Rect.{Rect}
 use Rattle.relay_model.specs.declared.act.Act.{Act}
 use Rattle.relay_model.specs.declared.act.Act.TheVariants as acts
 use Rattle.relay_model.specs.declared.said.Told.{Told}

@@ -1,9 +1,8 @@
 -- Entries and acts whose numbers have the ranges of their types, and whose texts are texts.
-use Rattle.std.specs.Prelude.{ℕ, ◌^◌, ◌<◌, ◌≤◌, ℤ, List, length, IsTrue, FitsSigned}
+use Rattle.std.specs.Prelude.{ℕ, ◌≤◌, List, length, IsTrue}
 use Rattle.std.specs.List.{AllByRecursion}
-use Rattle.std.specs.Int.{w32}
 use Rattle.wl_wire.specs.Texts.{is_text, IsBytes}
-use Rattle.popup_place.specs.declared.geometry.Rect.{Rect}
+use Rattle.relay_model.specs.Rect.{Rect}
 use Rattle.relay_model.specs.Keys.{Keymap, Repeat, Mods}
 use Rattle.relay_model.specs.declared.act.Act.{Act}
 use Rattle.relay_model.specs.declared.act.Act.TheVariants as acts
@@ -11,14 +10,7 @@ use Rattle.broker_steps.specs.declared.step.ShellStep.{ShellStep}
 use Rattle.broker_steps.specs.declared.step.ShellStep.TheVariants as shell
 use Rattle.broker_model.specs.declared.journal.Entry.{Entry}
 use Rattle.broker_model.specs.declared.journal.Entry.TheVariants as entries
-
--- a number of 32 bits
-abbrev pub IsWord : ℕ → Type 0
-IsWord n = n < 2 ^ 32
-
--- the same with a sign
-abbrev pub IsInt : ℤ → Type 0
-IsInt z = FitsSigned w32 z
+pub use Rattle.broker_steps.specs.Numbers.{IsWord, IsInt}
 
 -- a text of the protocol
 abbrev pub IsText : List ℕ → Type 0

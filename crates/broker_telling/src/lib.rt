@@ -52,7 +52,7 @@ pub fn batches_are_relayed()
 pub fn boards_are_apart()
     ensures { BoardsAreApart }
 {
-    relay_core::board_law();
+    broker_core::board_law();
     broker_model::board_law();
     relay_model::boards_relay_nothing();
 }

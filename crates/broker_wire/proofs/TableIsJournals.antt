@@ -1,6 +1,6 @@
 -- A table that stands for the calls of a journal is the table of what the journal comes to.
 use Rattle.std.proofs.Common.{◌≡◌, ℕ, List, true, ◌∙◌}
-use Rattle.im_objects.specs.Objects.{Objects, Stands}
+use Rattle.broker_model.specs.Objects.{Objects, Stands}
 use Rattle.relay_model.specs.Objects.{is_peer}
 use Rattle.broker_model.specs.declared.journal.Entry.{Entry}
 use Rattle.broker_model.specs.Ids.{log_of}

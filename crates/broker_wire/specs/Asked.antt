@@ -6,8 +6,8 @@ use Rattle.wl_proto.specs.declared.request.Request.{Request}
 use Rattle.wl_proto.specs.declared.request.Request.TheVariants as request
 use Rattle.relay_model.specs.Objects.{has_popup}
 use Rattle.relay_model.specs.Boards.{sends}
-use Rattle.broker_steps.specs.declared.step.ShellStep.{ShellStep}
-use Rattle.broker_steps.specs.declared.step.ShellStep.TheVariants as shell
+use Rattle.broker_model.specs.ShellStep.{ShellStep}
+use Rattle.broker_model.specs.ShellStep.TheVariants as shell
 use Rattle.broker_wire.specs.declared.requests.Argument as declared
 use Rattle.broker_model.specs.Ids.{Past, log_of, peer_at}
 use Rattle.broker_model.specs.Requests.{Argument, argument}

@@ -1,7 +1,7 @@
 -- What a message means by the table of its sender's objects.
 use Rattle.std.specs.Prelude.{◌≡◌, ℕ, ◌+◌, option_map}
 use Rattle.std.specs.FinMap as map
-use Rattle.im_objects.specs.Objects.{Objects}
+use Rattle.broker_model.specs.Objects.{Objects}
 use Rattle.broker_wire.specs.declared.meaning.Meaning as declared
 use Rattle.broker_model.specs.Ids.{Made, Past, object_at, number_live}
 use Rattle.broker_model.specs.Resolve.{Meaning, made_new}

@@ -8,12 +8,11 @@ ghost use Rattle.broker_model.specs.Resolve.{on_surface};
 ghost use Rattle.broker_model.specs.Resolve as resolve;
 ghost use Rattle.broker_wire.specs.Asked.{HasText, IsSurface, IsNamed};
 
-use broker_steps::ShellStep;
+use broker_model::ShellStep;
 use relay_model::{Act, Keymap, Label, Mods, Rect, Role};
 use std::alloc::Global;
-use wio_core::NoMemory;
 use wl_proto::Request;
-use wl_wire::Text;
+use wl_wire::{NoMemory, Text};
 
 // The act of a bind: the seat is the global with the name 2.
 fn bind_act(peer: Label, name: u32) -> Act

@@ -10,4 +10,5 @@ mod tokens;
 pub use acts::shell_act;
 pub use events::{event_of, named, token_of};
 pub use meaning::{Meaning, Sender, meaning_of};
+pub use relay_core::Post;
 pub use requests::Argument;

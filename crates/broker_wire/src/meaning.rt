@@ -14,13 +14,12 @@ ghost use Rattle.broker_wire.specs.Meant.{IsTableOf, meant};
 use crate::acts::act_of;
 use crate::requests::{Argument, Beside, new_object, object_argument, own_fault};
 use crate::tokens::takes_token;
-use im_objects::{LAST_ID, MOST_LIVE, Table};
+use broker_model::{LAST_ID, MOST_LIVE, Table};
 use relay_core::Relay;
 use relay_model::{Act, Fault, Label, Role};
 use std::alloc::Global;
-use wio_core::NoMemory;
 use wl_proto::{Interface, Refuse, Request, read_request};
-use wl_wire::Raw;
+use wl_wire::{NoMemory, Raw};
 
 /// What a message comes to: its act, what it makes under an id, and whether it takes a token.
 #[derive(Drop)]

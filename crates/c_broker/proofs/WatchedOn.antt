@@ -5,8 +5,8 @@ use Rattle.broker_steps.specs.declared.stamp.Stamp.{Stamp}
 use Rattle.broker_model.specs.declared.journal.Entry.TheVariants as entries
 use Rattle.broker_core.specs.declared.answers.Took.{Took}
 use Rattle.broker_core.specs.declared.answers.Took.TheVariants as took
-use Rattle.relay_objects.specs.Reached.{Reached}
-use Rattle.relay_objects.proofs.TellsAppend.{reached_append}
+use Rattle.broker_core.specs.Reached.{Reached}
+use Rattle.broker_core.proofs.TellsAppend.{reached_append}
 use Rattle.broker_model.specs.declared.journal.Entry.{Entry}
 use Rattle.broker_model.specs.Settle.{number_alive}
 use Rattle.broker_core.specs.Broker.{Broker, with_step, letting_go, IsWatched, IfBytes, IfNoBytes}

@@ -10,6 +10,7 @@ use Rattle.broker_core.specs.Broker.{Broker, with_step, peer_refusal, IsWatched}
 use Rattle.broker_core.specs.Taking.{standing_of}
 use Rattle.broker_cutter.specs.Steps.{steps_in}
 use Rattle.c_broker.specs.Ears.{Waits, Hears}
+pub use Rattle.broker_model.specs.Growth.{IsMore}
 
 -- where steps lead, and why the next wasn't taken, where one wasn't
 pub record Led : Type 0 where
@@ -50,11 +51,6 @@ all_done = Ok tt
 -- the answer why not
 abbrev pub not_done : Refused → Result (Unit {0}) Refused
 not_done why = Err why
-
--- the journal has these entries more, the newest first
-pub record IsMore (before after : List Entry) : Type 0 where
-  pub more : List Entry
-  pub is : after ≡ more ++ before
 
 -- the journal grew, and the shell was told what it is told of each entry more, and nothing else
 pub record Hearing (b : Broker) (ears : Waits) (after : Broker) (ears_after : Waits) : Type 0 where

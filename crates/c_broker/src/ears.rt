@@ -9,7 +9,7 @@ use relay_core::Relay;
 use relay_model::{Act, Mods};
 use std::alloc::Global;
 use std::marker::Model;
-use wio_core::NoMemory;
+use wl_wire::NoMemory;
 
 /// How many events may wait for the shell.
 const MOST_EVENTS: usize = 1024;

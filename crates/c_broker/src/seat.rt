@@ -9,7 +9,7 @@ use relay_model::{Label, Role};
 use std::alloc::Global;
 use std::collections::HashMap;
 use std::marker::Model;
-use wio_core::NoMemory;
+use wl_wire::NoMemory;
 
 /// All peers of a seat: what they share, what is held of the bytes of each that make no whole
 /// message yet, and what the shell is told and hasn't asked for.

@@ -12,9 +12,9 @@ use Rattle.relay_model.specs.declared.act.Act.TheVariants as acts
 use Rattle.relay_model.specs.declared.said.Said.{Said}
 use Rattle.relay_model.specs.declared.said.Said.TheVariants as said
 use Rattle.relay_model.specs.Told.{told}
-use Rattle.relay_objects.specs.Fits.{FitsMessage}
+use Rattle.relay_core.specs.Fits.{FitsMessage}
 use Rattle.relay_core.specs.Bounds.{text_of}
-use Rattle.broker_audience.specs.Tells.{IsShort}
+use Rattle.broker_telling.specs.Tells.{IsShort}
 use Rattle.broker_model.specs.Ids.{Made}
 use Rattle.broker_model.specs.Groups.{message_of}
 use Rattle.broker_model.proofs.EachElement.{each_append, each_weaker, each_flat}

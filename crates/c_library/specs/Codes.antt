@@ -1,7 +1,7 @@
 -- Numbers of C in place of what the safe calls take and answer.
 use Rattle.std.specs.Prelude.{ℕ, ℤ, pos, negsuc, ◌==◌, ◌^◌, ◌-◌, min, if◌then◌else◌, Option, Some, None, Result, Ok, Err}
-use Rattle.kbd_grab.specs.declared.keyboard.Route.{Route}
-use Rattle.kbd_grab.specs.declared.keyboard.Route.TheVariants as routes
+use Rattle.relay_model.specs.Route.{Route}
+use Rattle.relay_model.specs.Route.TheVariants as routes
 use Rattle.relay_model.specs.declared.act.EndCause.TheVariants as causes
 use Rattle.relay_model.specs.declared.role.Role.{Role}
 use Rattle.relay_model.specs.declared.role.Role.TheVariants as roles

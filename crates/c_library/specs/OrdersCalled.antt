@@ -1,6 +1,6 @@
 -- What the functions owe that C calls for what the shell says.
 use Rattle.std.specs.Prelude.{◌≡◌, ◌⊎◌, ℕ, ℤ, negsuc, Option, Some, None, Result, Err, IfSome, IfNone, IfOk, OnOk, OnErr, IsOkUnless}
-use Rattle.kbd_grab.specs.declared.keyboard.Route.{Route}
+use Rattle.relay_model.specs.Route.{Route}
 use Rattle.relay_core.specs.Stands.{route_told}
 use Rattle.broker_steps.specs.declared.stamp.Stamp.{Stamp}
 use Rattle.broker_steps.specs.declared.step.Step.TheVariants as steps

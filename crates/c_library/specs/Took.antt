@@ -1,7 +1,7 @@
 -- What the functions that C calls owe where they give the seat an act, in the words of the safe
 -- calls.
 use Rattle.std.specs.Prelude.{◌≡◌, ◌⊎◌, ◌<◌, ◌≤◌, ℕ, ℤ, pos, negsuc, List, [], length, Bool, true, false, Option, Some, None, Result, Ok, Err}
-use Rattle.wl_wire.specs.Texts.{is_text}
+use Rattle.broker_telling.specs.Texts.{is_text}
 use Rattle.relay_model.specs.declared.act.Act.{Act}
 use Rattle.relay_model.specs.declared.act.Act.TheVariants as acts
 use Rattle.c_relay.specs.declared.census.SeatLimits.{SeatLimits}

@@ -5,11 +5,11 @@ ghost use Rattle.c_library.specs.Called.{Opened, Tells, new_broker};
 
 use crate::answer;
 use crate::held_bytes::HeldBytes;
+use broker_model::NoMemory;
 use broker_steps::{ENTRY_LIMIT, Limits, STORE_LIMIT, WEIGHT_LIMIT};
 use c_broker::ByteSeat;
 use std::alloc::Global;
 use std::mem::replace;
-use wio_core::NoMemory;
 
 /// A broker, or none. All zero is none.
 #[repr(C)]

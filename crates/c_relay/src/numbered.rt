@@ -23,7 +23,7 @@ pub struct NumberedSeat {
 impl Model for NumberedSeat {
     ghost use Rattle.c_relay.specs.Numbers.{Numbered};
     ghost use Rattle.std.specs.Coded.{codes};
-    ghost use Rattle.kbd_grab.specs.Keyboard.{keyboard_code};
+    ghost use Rattle.relay_core.specs.Keyboard.{keyboard_code};
     ghost use Rattle.relay_core.specs.BoardKeys.{boards_code};
 
     ghost Value = { Numbered };

@@ -56,7 +56,7 @@ pub struct RelaySeat {
 impl Model for RelaySeat {
     ghost use Rattle.c_relay.specs.Seated.{Seat};
     ghost use Rattle.std.specs.Coded.{codes};
-    ghost use Rattle.kbd_grab.specs.Keyboard.{keyboard_code};
+    ghost use Rattle.relay_core.specs.Keyboard.{keyboard_code};
     ghost use Rattle.relay_core.specs.BoardKeys.{boards_code};
 
     ghost Value = { Seat };

@@ -16,3 +16,4 @@ pub mod MethodState
 pub mod MethodWorking
 pub mod Heard
 pub mod Laws
+pub mod HappenedLists

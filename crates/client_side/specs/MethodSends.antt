@@ -1,17 +1,14 @@
 -- What the method's client sends to its input method.
-use Rattle.std.specs.Prelude.{ℕ, ℤ, pos, negsuc, Bool, false, ◌&&◌, ◌==◌, List, [], ◌∷◌, ◌++◌, length, if◌then◌else◌}
+use Rattle.std.specs.Prelude.{ℕ, ℤ, ◌&&◌, ◌==◌, List, [], ◌∷◌, ◌++◌, length, if◌then◌else◌}
 use Rattle.wl_proto.specs.declared.request.Request.TheVariants as requests
 use Rattle.wl_proto.specs.Rows.{Message, request_message}
 use Rattle.trial_field.specs.Log.{Batch}
 use Rattle.client_side.specs.Messages.{Sent, to, commit_string, set_preedit_string}
+pub use Rattle.wl_proto.specs.Zero.{is_zero}
 
 -- a request to the input method
 abbrev pub to_method : Message → Sent
 to_method m = to 5 m
-
-abbrev pub is_zero : ℤ → Bool
-is_zero (pos n) = n == 0
-is_zero (negsuc n) = false
 
 -- a deletion unless both lengths are 0
 abbrev pub deletion_sent : ℕ → ℕ → List Sent

@@ -24,3 +24,4 @@ pub use field_client::FieldClient;
 pub use hearer::{FieldHearer, MethodHearer};
 pub use laws::{field_log_law, method_log_law};
 pub use method_client::MethodClient;
+pub use trial_field::{BatchView, Edit, TrialField};

@@ -16,3 +16,5 @@ pub use method::Method;
 pub use table::{ComposeTable, MAX_ENTRIES, MAX_KEY_TEXT, MAX_KEYS, MAX_SINGLES, TableRefusal};
 pub use typing::MAX_TYPED;
 pub use typist::{MAX_PREEDIT, MAX_STRING, Typist};
+pub use wl_proto::Event;
+pub use wl_wire::Text;

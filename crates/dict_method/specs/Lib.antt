@@ -5,3 +5,5 @@ pub mod Presses
 pub mod Spelling
 pub mod History
 pub mod Ready
+pub use Rattle.compose_method.specs.Table
+pub use Rattle.wl_wire.specs.Texts

@@ -19,8 +19,7 @@ use crate::word::Word;
 use compose_method::{Keys, TableRefusal};
 use std::alloc::Global;
 use std::marker::Model;
-use wio_core::NoMemory;
-use wl_wire::Text;
+use wl_wire::{NoMemory, Text};
 
 /// The most words.
 pub const MAX_WORDS: usize = 16_384;

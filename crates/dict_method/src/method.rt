@@ -19,8 +19,8 @@ use crate::texts::{set_text, show_code};
 use compose_method::{ComposeTable, MAX_KEY_TEXT, Typist};
 use std::alloc::Global;
 use std::marker::Model;
-use wio_core::NoMemory;
 use wl_proto::Event;
+use wl_wire::NoMemory;
 
 /// The longest preedit of a press, in bytes: 16 keys with texts of 64 bytes.
 pub const MAX_CODE_TEXT: usize = 1_024;

@@ -6,8 +6,7 @@ ghost use Rattle.edit_batch.specs.Calls.{Call, String, Preedit, Delete, Reset, l
 
 use std::alloc::Global;
 use std::marker::Model;
-use wio_core::NoMemory;
-use wl_wire::Text;
+use wl_wire::{NoMemory, Text};
 
 /// The longest text of a `zwp_input_method_v2.commit_string`, in bytes: what fits a message of 4,096 bytes beside its
 /// header, the text's length and its zero byte.

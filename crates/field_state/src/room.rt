@@ -4,7 +4,7 @@ ghost use Rattle.std.specs.Prelude.{◌≡◌, Some, None, if◌then◌else◌};
 use crate::slots::SURROUNDING_LIMIT;
 use std::alloc::Global;
 use std::marker::Model;
-use wio_core::NoMemory;
+use wl_wire::NoMemory;
 
 /// Memory for the texts of one field, pending and current: twice `SURROUNDING_LIMIT` bytes. A field takes it at its
 /// first text, and keeps it. In contracts it is nothing but there.

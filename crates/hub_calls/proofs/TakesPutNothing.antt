@@ -5,7 +5,7 @@ use Rattle.std.proofs.lemmas.Bool.{le-leb, true≢false}
 use Rattle.relay_model.specs.declared.act.Act.TheVariants as acts
 use Rattle.relay_model.specs.Told.{told}
 use Rattle.relay_model.proofs.ActsOrIdle.{history_is}
-use Rattle.relay_core.proofs.ActsTell.{says_idle}
+use Rattle.broker_core.proofs.ActsTell.{says_idle}
 use Rattle.broker_model.specs.declared.journal.Entry.{Entry}
 use Rattle.broker_model.specs.declared.journal.Entry.TheVariants as entries
 use Rattle.broker_model.specs.Groups.{Piece, nothing, followed_by, group_for}

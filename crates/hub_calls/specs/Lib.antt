@@ -3,3 +3,4 @@ pub mod Taken
 pub mod Submitted
 pub mod Ordered
 pub mod Counted
+pub use Rattle.broker_core.specs.Stands

@@ -1,19 +1,15 @@
 -- What became of a peer's messages that its reader submitted in order
 use Rattle.std.specs.Prelude.{◌≡◌, ℕ, List, ◌∷◌, ◌++◌, map, Result, Ok, Err}
 use Rattle.broker_steps.specs.declared.limits.Limits.{Limits}
-use Rattle.wl_wire.specs.Messages.{id_of, opcode_of, body_of, messages}
+use Rattle.wl_wire.specs.Messages.{messages}
 use Rattle.broker_model.specs.declared.journal.Entry.{Entry}
-use Rattle.broker_model.specs.declared.journal.Entry.TheVariants as entries
 use Rattle.hub_lock.specs.Passes.{PeerPass}
 use Rattle.hub_calls.specs.declared.stop.PassStop.{PassStop}
 use Rattle.hub_calls.specs.declared.stop.PassStop.TheVariants as stops
 use Rattle.hub_calls.specs.declared.submit.Sent.{Sent}
 use Rattle.hub_calls.specs.declared.submit.Sent.TheVariants as sent
 use Rattle.hub_calls.specs.Made.{entries_by, HasEnded, IsFullFor}
-
--- the entry of a whole message of the peer with the number q
-abbrev pub message_entry : ℕ → List ℕ → Entry
-message_entry q m = entries.Message q (id_of m) (opcode_of m) (body_of m)
+pub use Rattle.broker_model.specs.MessageEntries.{message_entry}
 
 -- those of the whole messages that bytes begin with
 abbrev pub entries_in : ℕ → List ℕ → List Entry

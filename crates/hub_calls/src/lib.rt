@@ -9,6 +9,7 @@ mod stop;
 mod submit;
 mod take;
 
+pub use broker_core::Kept;
 pub use laws::{only_root_joins, seen_stays, steps_are_of_passes, steps_stay};
 pub use order::order_step;
 pub use stop::PassStop;

@@ -2,7 +2,7 @@
 use Rattle.std.proofs.Common.{◌≡◌, ◌⊎◌, ◌↔◌, ℕ, ◌<◌, List, [], ◌∷◌, Some, ap, sym, ◌∙◌, inl, inr, ⊎_elim, arith}
 use Rattle.std.specs.Int.{bit_at}
 use Rattle.std.proofs.lemmas.Nat.Bits.{bit_at-zero}
-use Rattle.relay_objects.specs.Reached.{Reached}
+use Rattle.broker_core.specs.Reached.{Reached}
 use Rattle.broker_core.specs.Watched.{Watched}
 use Rattle.hub_lock.specs.declared.rings.Rings.{Rings}
 use Rattle.hub_lock.specs.Bells.{bell_of, IsFor, AreRung, IsRungBy}

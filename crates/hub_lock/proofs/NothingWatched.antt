@@ -2,7 +2,7 @@
 use Rattle.std.proofs.Common.{◌≡◌, ℕ, ◌<◌, ◌≤◌, List, [], ◌∷◌, ◌++◌, length, Bool, false, refl, ap, sym, subst, arith}
 use Rattle.std.specs.Prelude.{nat_le, if◌then◌else◌}
 use Rattle.std.proofs.lemmas.Bool.Decides.{nat_tests}
-use Rattle.relay_objects.specs.Reached.{Reached}
+use Rattle.broker_core.specs.Reached.{Reached}
 use Rattle.broker_model.specs.declared.journal.Entry.{Entry}
 use Rattle.broker_core.specs.Watched.{Watched, watched, watched_since}
 use Rattle.broker_core.specs.Broker.{Broker, IsWatched}

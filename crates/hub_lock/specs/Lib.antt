@@ -14,3 +14,9 @@ pub mod Calls
 pub mod Finished
 pub mod Recording
 pub mod Bells
+pub mod Seen
+pub use Rattle.turn_lock.specs.Pairs
+pub use Rattle.relay_core.specs.Stands
+pub use Rattle.broker_model.specs.declared.journal.Entry
+pub use Rattle.turn_lock.specs.Sights
+pub use Rattle.broker_steps.specs.declared.limits.Limits

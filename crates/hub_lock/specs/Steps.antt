@@ -1,10 +1,9 @@
 -- Which entries the steps of a hub put behind a journal: each is one that a line can give, and finds
 -- what it needs
-use Rattle.std.specs.Prelude.{◌≡◌, ℕ, ◌<◌, ◌≤◌, ◌^◌, ℤ, List, [], ◌∷◌, length, true, Some, All, FitsSigned}
-use Rattle.std.specs.Int.{w32}
+use Rattle.std.specs.Prelude.{◌≡◌, ℕ, ◌<◌, ◌≤◌, ◌^◌, List, [], ◌∷◌, length, true, Some, All}
 use Rattle.std.specs.List.{AllByRecursion}
-use Rattle.wl_wire.specs.Messages.{IsBad}
-use Rattle.wl_wire.specs.Texts.{IsBytes}
+use Rattle.broker_steps.specs.Messages.{IsBad}
+use Rattle.broker_steps.specs.Texts.{IsBytes}
 use Rattle.broker_steps.specs.declared.limits.Limits.{Limits}
 use Rattle.broker_steps.specs.declared.step.ShellStep.{ShellStep}
 use Rattle.broker_steps.specs.declared.step.ShellStep.TheVariants as shells
@@ -16,14 +15,7 @@ use Rattle.broker_model.specs.Settle.{history, number_alive}
 use Rattle.broker_core.specs.Taking.{out_at, lives}
 use Rattle.hub_lock.specs.declared.step.OuterStep.{OuterStep}
 use Rattle.hub_lock.specs.Histories.{History, entries_of}
-
--- a number of 32 bits
-abbrev pub IsWord : ℕ → Type 0
-IsWord n = n < 2 ^ 32
-
--- the same with a sign
-abbrev pub IsInt : ℤ → Type 0
-IsInt z = FitsSigned w32 z
+pub use Rattle.broker_steps.specs.Numbers.{IsWord, IsInt}
 
 -- what the shell says has numbers of 32 bits, and a moment one of 64
 abbrev pub HasWidths : ShellStep → Type 0

@@ -1,6 +1,6 @@
 //! A step is one that a line can give: its numbers are those of their types. The bodies only read.
 ghost use Rattle.std.specs.Prelude.{◌<◌, ◌^◌, All};
-ghost use Rattle.wl_wire.specs.Texts.{IsBytes};
+ghost use Rattle.broker_steps.specs.Texts.{IsBytes};
 ghost use Rattle.broker_steps.specs.Ranges.{IsStep, IsPeerStep, IsShellStep};
 ghost use Rattle.broker_steps.specs.declared.step.Step.TheVariants as steps;
 ghost use Rattle.broker_core.specs.Broker.{IsSaid, entry_of};

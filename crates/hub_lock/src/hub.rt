@@ -16,12 +16,11 @@ use crate::call::{Answer, Call, Reply};
 use crate::noted_state::NotedState;
 use crate::pass::{HubPass, Member};
 use crate::{Bells, RecordBell};
-use broker_steps::Limits;
+use broker_steps::{Limits, NoMemory};
 use std::alloc::Global;
 use std::marker::Model;
 use std::sync::Wait;
 use turn_lock::{Seat, Turn};
-use wio_core::NoMemory;
 
 /// The shared state of all peers behind a lock. Threads share it, and each of its users has a pass.
 /// Contracts see which hub it is, a `HubId`: its lock, and its limits.

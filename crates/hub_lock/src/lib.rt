@@ -33,6 +33,8 @@ pub use hub::Hub;
 pub use laws::takers_are_rung;
 pub use pass::{HubPass, Pass, ReaderPass, RecorderPass, ShellPass, WriterPass};
 pub use record_bell::RecordBell;
+pub use relay_core::Route;
 pub use rings::{BELLS, Rings};
 pub use room::Room;
 pub use session::{NoSession, Session};
+pub use turn_lock::{Seat, Story, Turn};

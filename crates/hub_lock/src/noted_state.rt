@@ -7,12 +7,11 @@ ghost use Rattle.hub_lock.specs.Events.{with_mark};
 use crate::call::{Call, Reply};
 use crate::event::{Event, Mark};
 use crate::state::HubState;
-use broker_steps::Limits;
-use out_store::Past;
+use broker_audience::Past;
+use broker_steps::{Limits, NoMemory};
 use std::alloc::Global;
 use std::marker::Model;
 use turn_lock::Story;
-use wio_core::NoMemory;
 
 /// The state of a hub. Its marks take no memory: contracts alone see them.
 #[derive(Drop)]

@@ -6,8 +6,8 @@ ghost use Rattle.hub_lock.specs.Passes.{total_steps, total_bytes, HasSeenLawful}
 
 use crate::noted_state::NotedState;
 use crate::room::Room;
+use broker_audience::Past;
 use broker_core::LetGo;
-use out_store::Past;
 use std::marker::Model;
 use turn_lock::Seat;
 

@@ -9,8 +9,8 @@ ghost use Rattle.hub_lock.specs.Recording.{LegalHandOut};
 use crate::call::{Answer, Ask, Call, Reply};
 use crate::hub::Hub;
 use crate::pass::{HubPass, RecorderPass};
+use broker_audience::Past;
 use broker_core::LetGo;
-use out_store::Past;
 use std::sync::Wait;
 
 impl Hub {

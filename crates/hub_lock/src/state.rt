@@ -23,11 +23,10 @@ use crate::room::Places;
 use crate::session::{NoSession, Session};
 use broker_core::{Applied, JoinRefusal, LetGo, Refused, Shared, Standing, Took};
 use broker_model::Entry;
-use broker_steps::{Limits, Stamp, Step};
+use broker_steps::{Limits, NoMemory, Stamp, Step};
 use relay_model::Role;
 use std::alloc::Global;
 use std::marker::Model;
-use wio_core::NoMemory;
 
 /// The shared state of all peers, for each of them the number of its reader's pass, and the number
 /// of the pass of who records.

@@ -11,3 +11,4 @@ mod keyboard;
 pub use grab::Grab;
 pub use held::HeldKeys;
 pub use keyboard::{Keymap, Label, Mods, Repeat, Route};
+pub use wio_core::NoMemory;

@@ -2,9 +2,9 @@
 use Rattle.std.proofs.Common.{◌≡◌, ℕ, ◌+◌, ◌<◌, ◌≤◌, List, [], ◌∷◌, Bool, true, false, refl, inl, inr, arith}
 use Rattle.std.specs.Prelude.{nat_lt}
 use Rattle.std.proofs.lemmas.Bool.{ltb-true}
-use Rattle.kbd_grab.specs.Keys.{Call, is_down, number_down}
-use Rattle.kbd_grab.specs.Keys.Call.{Key}
-use Rattle.kbd_grab.proofs.KeysByCalls.{number_kept, number_released, number_taken, number_up}
+use Rattle.relay_core.specs.Keys.{Call, is_down, number_down}
+use Rattle.relay_core.specs.Keys.Call.{Key}
+use Rattle.relay_core.proofs.KeysByCalls.{number_kept, number_released, number_taken, number_up}
 use Rattle.relay_model.specs.Boards.{board_number}
 use Rattle.relay_model.specs.Idle.{history}
 use Rattle.relay_model.proofs.ActsOrIdle.{history_is}

@@ -13,7 +13,7 @@ use Rattle.broker_model.specs.declared.journal.Entry.TheVariants as entries
 use Rattle.broker_model.specs.Ids.{Joined, log_of, peer_at}
 use Rattle.broker_model.specs.Resolve.{past_of}
 use Rattle.broker_model.proofs.LivePeersJoined.{joined_stays}
-use Rattle.broker_core.specs.Taking.{lives}
+use Rattle.law_held.specs.Taking.{lives}
 use Rattle.seat_set.specs.Played.{Play, Played, went, step_played, line_played}
 use Rattle.seat_set.specs.Playing.{IsMore}
 use Rattle.seat_set.specs.Laws.{lines_played}

@@ -15,7 +15,7 @@ use Rattle.broker_model.specs.Limits.{is_counted, number_counted}
 use Rattle.broker_model.specs.Resolve.{with_joined, past_of}
 use Rattle.broker_model.specs.Settle.{due, cause_of, with_end, settled, number_alive, settle}
 use Rattle.broker_model.proofs.SettlingEnds.{ends_fewer}
-use Rattle.broker_audience.specs.Lives.{Numbered}
+use Rattle.broker_core.specs.Lives.{Numbered}
 use Rattle.broker_core.specs.Stands.{numbered, is_alive}
 use Rattle.broker_core.proofs.AliveAfterEntry.{counted_cons}
 use Rattle.broker_core.proofs.RosterAfterEntry.{roster_end, roster_count}

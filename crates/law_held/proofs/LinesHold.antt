@@ -27,7 +27,7 @@ use Rattle.broker_model.proofs.EachElement.{each_weaker, each_append, all_filter
 use Rattle.broker_core.specs.Taking.{lives}
 use Rattle.broker_core.proofs.AliveAfterEntry.{counted_cons, same_settled, alive_plain, alive_join}
 use Rattle.broker_core.proofs.RosterAfterEntry.{IsPlain}
-use Rattle.broker_cutter.specs.Steps.{message_entry, bad_entries, steps_in}
+use Rattle.seat_set.specs.Steps.{message_entry, bad_entries, steps_in}
 use Rattle.broker_telling.specs.Sayable.{IsShellSayable, IsHeld, AreHeld}
 use Rattle.seat_set.specs.Laws.{lines_played, unplayed}
 use Rattle.seat_set.specs.Played.{Waiting, Play, Played, went, of_live, with_step, step_played, steps_played, unread_by, unread_of, with_unread, bytes_played, with_peer, take_played, line_played}

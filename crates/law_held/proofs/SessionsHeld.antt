@@ -21,7 +21,7 @@ use Rattle.session_text.specs.SessionGrammar.{HasLinkLine, HasStampedLine}
 use Rattle.session_text.specs.Words.{fits_i32}
 use Rattle.session_text.proofs.LinesReadBack.{reads_only}
 use Rattle.session_text.proofs.SpelledSteps.{old_line}
-use Rattle.lines_transcript.specs.Printing.{unstamped}
+use Rattle.seat_set.specs.Printing.{unstamped}
 use Rattle.broker_model.proofs.EachElement.{each_weaker}
 use Rattle.broker_telling.specs.Sayable.{IsInt, IsShellSayable}
 use Rattle.seat_set.specs.Laws.{lines_played, unplayed}

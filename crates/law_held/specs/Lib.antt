@@ -1,1 +1,2 @@
 pub mod Held
+pub use Rattle.broker_core.specs.Taking

@@ -14,7 +14,7 @@ use Rattle.session_text.specs.SessionReading.{one_session_word}
 use Rattle.session_text.specs.Steps.{step_line}
 use Rattle.session_text.proofs.LinesReadBack.{reads_each}
 use Rattle.session_text.proofs.SpelledSteps.{old_line, session_parts}
-use Rattle.lines_transcript.specs.Printing.{unstamped}
+use Rattle.seat_set.specs.Printing.{unstamped}
 use Rattle.broker_model.proofs.EachElement.{each_append}
 use Rattle.seat_set.specs.Laws.{lines_played, unplayed}
 use Rattle.session_gen.specs.Generated.{step_count}

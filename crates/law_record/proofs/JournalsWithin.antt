@@ -20,7 +20,7 @@ use Rattle.broker_model.specs.Ids.{Joined, log_of, peer_at}
 use Rattle.broker_model.specs.Limits.{is_end, number_counted, weight_of, weight, is_full}
 use Rattle.broker_model.specs.Resolve.{past_of}
 use Rattle.broker_model.specs.Settle.{number_alive}
-use Rattle.broker_audience.specs.Lives.{Numbered}
+use Rattle.broker_core.specs.Lives.{Numbered}
 use Rattle.broker_core.specs.Broker.{entry_of}
 use Rattle.broker_core.specs.Stands.{numbered, is_alive}
 use Rattle.broker_core.proofs.AliveAfterEntry.{counted_cons, weight_cons, same_settled, alive_settle, alive_plain, alive_join}

@@ -5,7 +5,7 @@ use Rattle.std.specs.Fmt.{decimal, signed_decimal}
 use Rattle.std.proofs.lemmas.Bool.{and_parts}
 use Rattle.std.proofs.lemmas.List.Elements.{All-nil, All-cons, All-head, All-tail}
 use lib.IntN.{ℤ, pos, negsuc}
-use Rattle.wio_core.specs.Lines.{LacksFeed}
+use Rattle.wl_wire.specs.Lines.{LacksFeed}
 use Rattle.relay_model.specs.declared.role.Role.{Role}
 use Rattle.relay_model.specs.declared.role.Role.TheVariants.{App, Method, Keyed}
 use Rattle.broker_steps.specs.declared.limits.Limits.{Limits}

@@ -8,7 +8,7 @@ use Rattle.session_text.specs.declared.line.SessionLine.{SessionLine}
 use Rattle.session_text.specs.Steps.{step_line}
 use Rattle.broker_model.specs.declared.journal.Entry.{Entry}
 use Rattle.broker_model.specs.Stamps.{stamps}
-use Rattle.lines_transcript.specs.Transcribed.{journal_text}
+use Rattle.seat_set.specs.Transcribed.{journal_text}
 use Rattle.seat_set.specs.Played.{Waiting, Played}
 use Rattle.seat_set.specs.Laws.{lines_played, unplayed}
 use Rattle.serve_record.specs.Recorded.{recorded}

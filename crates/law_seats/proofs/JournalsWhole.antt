@@ -15,7 +15,7 @@ use Rattle.broker_model.specs.Out.{act_at, group_at, fits, before_group, out_for
 use Rattle.broker_model.specs.Resolve.{past_of, resolve}
 use Rattle.broker_core.specs.Stands.{numbered}
 use Rattle.broker_core.specs.Watched.{number_at, maker}
-use Rattle.broker_audience.specs.Lives.{Numbered}
+use Rattle.broker_core.specs.Lives.{Numbered}
 use Rattle.lines_transcript.specs.Transcribed.{head_text, group_text, out_text, shell_text, entry_text, text_since}
 use Rattle.std.proofs.Common.{map}
 use Rattle.law_seats.proofs.WholeTexts.{IsWhole, whole_none, whole_both, whole_fed, whole_flat}

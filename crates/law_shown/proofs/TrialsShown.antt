@@ -3,8 +3,8 @@ use Rattle.std.proofs.Common.{◌≡◌, ◌≢◌, ℕ, ◌≤◌, Bool, true, 
 use Rattle.trial_script.specs.declared.script.Ending.{Ending}
 use Rattle.trial_script.specs.declared.script.Ending.TheVariants as endings
 use Rattle.trial_script.specs.declared.script.Script.{Script}
-use Rattle.broker_model.specs.declared.journal.Kept.{Kept}
-use Rattle.broker_core.specs.Broker.{kept_in}
+use Rattle.trial_run.specs.Kept.{Kept}
+use Rattle.trial_run.specs.Broker.{kept_in}
 use Rattle.trial_run.specs.Play.{TrialPlay}
 use Rattle.trial_run.specs.Ran.{Ran, went}
 use Rattle.trial_run.specs.Trial.{Ended, journal_full, by_ending, trial_limits, trial_of, trial_played}

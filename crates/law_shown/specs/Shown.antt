@@ -3,7 +3,7 @@
 use Rattle.std.specs.Prelude.{◌≡◌, ◌≢◌, ℕ, ◌≤◌, ◌⊎◌, Bool, true, false, List, [], ◌∷◌, ◌++◌, codes}
 use Rattle.trial_script.specs.declared.script.Ending.{Ending}
 use Rattle.trial_script.specs.declared.script.Ending.TheVariants as endings
-use Rattle.broker_model.specs.declared.journal.Kept.{Kept}
+use Rattle.trial_run.specs.Kept.{Kept}
 use Rattle.trial_run.specs.Trial.{Ended, over, bad_line, journal_full, trial_limits, trial_of, trial_played}
 use Rattle.trial_laws.specs.ShownTexts.{AreShownTexts}
 use Rattle.trial_laws.specs.MethodLaws.{IsTyped}

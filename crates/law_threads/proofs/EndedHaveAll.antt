@@ -3,8 +3,8 @@ use Rattle.std.proofs.Common.{◌≡◌, ℕ, zero, suc, ◌+◌, Bool, true, fa
 use Rattle.std.specs.Prelude.{if◌then◌else◌, ◌==◌, ◌&&◌}
 use Rattle.std.proofs.lemmas.Bool.{eqb-true}
 use Rattle.std.proofs.lemmas.Option.{same_Some}
-use Rattle.relay_model.specs.declared.act.EndCause.{EndCause}
-use Rattle.relay_model.specs.Objects.{is_peer}
+use Rattle.trial_run.specs.EndCause.{EndCause}
+use Rattle.trial_run.specs.Objects.{is_peer}
 use Rattle.broker_steps.specs.declared.limits.Limits.{Limits}
 use Rattle.broker_model.specs.declared.journal.Entry.{Entry}
 use Rattle.broker_model.specs.declared.journal.Entry.TheVariants as entries

@@ -10,7 +10,7 @@ use Rattle.broker_model.specs.Ids.{Joined, peer_at}
 use Rattle.broker_model.specs.Out.{Outgoing, out_for}
 use Rattle.broker_model.specs.Resolve.{past_of}
 use Rattle.broker_model.specs.Settle.{history}
-use Rattle.desc_frame.specs.Frames.{Frame, spelling}
+use Rattle.peer_link.specs.Frames.{Frame, spelling}
 use Rattle.turn_lock.specs.Pairs.{NoneOf}
 use Rattle.turn_lock.proofs.PairsOfNumbers.{own-seen}
 use Rattle.hub_lock.specs.declared.step.OuterStep.{OuterStep}

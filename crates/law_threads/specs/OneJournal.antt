@@ -1,11 +1,11 @@
 -- What writers took and their links gained, by the one journal of the whole run
 use Rattle.std.specs.Prelude.{◌≡◌, ℕ, ◌≤◌, List, [], ◌∷◌, length, map, sum, Option, Some}
-use Rattle.wio_core.specs.Io.{StaysQuiet}
+use Rattle.trial_script.specs.Io.{StaysQuiet}
 use Rattle.broker_steps.specs.declared.limits.Limits.{Limits}
 use Rattle.broker_model.specs.declared.journal.Entry.TheVariants as entries
 use Rattle.broker_model.specs.Out.{Outgoing}
 use Rattle.broker_core.specs.Taking.{out_at}
-use Rattle.desc_frame.specs.Frames.{spelling}
+use Rattle.peer_link.specs.Frames.{spelling}
 use Rattle.turn_lock.specs.Pairs.{own, HasSeen}
 use Rattle.hub_lock.specs.declared.step.OuterStep.{OuterStep}
 use Rattle.hub_lock.specs.Histories.{History, writer_of}
@@ -16,10 +16,10 @@ use Rattle.peer_link.specs.declared.ends.WriteEnd.TheVariants as ends
 use Rattle.peer_link.specs.Made.{journal_of}
 use Rattle.peer_link.specs.Gains.{Gains}
 use Rattle.peer_link.specs.WritesPeer.{frames_of, is_cut, WritesPeer}
-use Rattle.serve_net.specs.NewLinks.{IsNothing}
+use Rattle.serve_jobs.specs.NewLinks.{IsNothing}
 use Rattle.serve_jobs.specs.Tags.{Report, End}
 use Rattle.serve_jobs.specs.Tags.End.{read, wrote, ordered}
-use Rattle.serve_words.specs.Words.{Serving}
+use Rattle.serve_run.specs.Words.{Serving}
 use Rattle.serve_run.specs.declared.status.ServeStatus.{ServeStatus}
 use Rattle.serve_run.specs.Reported.{IsWriter}
 use Rattle.serve_run.specs.ServerLaw.{Sides, ServerLaw}

@@ -5,7 +5,7 @@ use Rattle.broker_steps.specs.declared.limits.Limits.{Limits}
 use Rattle.broker_model.specs.declared.journal.Entry.{Entry}
 use Rattle.broker_model.specs.declared.journal.Kept.{Kept}
 use Rattle.broker_core.specs.Broker.{kept_in}
-use Rattle.client_side.specs.MethodLog.{Happening}
+use Rattle.trial_client_logs.specs.MethodLog.{Happening}
 use Rattle.trial_client_logs.specs.declared.entry.FieldEntry.{FieldEntry}
 use Rattle.trial_client_logs.specs.Logs.{edit_of, batch_of, field_log}
 use Rattle.trial_client_logs.specs.MethodLogs.{method_log}

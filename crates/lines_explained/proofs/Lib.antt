@@ -3,3 +3,6 @@ pub mod LinesSince
 pub mod ExplainersReached
 pub mod OutcomesGiven
 pub mod OwnGroupPut
+pub mod KeysSent
+pub mod LacksHold
+pub mod ArgumentsNamed

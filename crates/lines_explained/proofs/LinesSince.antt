@@ -9,20 +9,20 @@ use Rattle.relay_model.specs.declared.said.Said.TheVariants as said
 use Rattle.relay_model.specs.Told.{told}
 use Rattle.relay_model.specs.Idle.{history}
 use Rattle.relay_reasons.specs.Seat.{seat}
-use Rattle.lines_explained.specs.Deed.{begun}
 use Rattle.broker_model.specs.declared.journal.Entry.{Entry}
 use Rattle.broker_model.specs.declared.journal.Entry.TheVariants as entries
 use Rattle.broker_model.specs.Ids.{Made}
 use Rattle.broker_model.specs.Resolve.{past_of, resolve}
 use Rattle.broker_model.specs.Groups.{Piece, pair_of}
 use Rattle.broker_model.specs.Out.{act_at, group_at, fits, before_group, out_for}
-use Rattle.broker_audience.specs.Lives.{Numbered}
+use Rattle.broker_core.specs.Lives.{Numbered}
 use Rattle.broker_core.specs.Stands.{numbered}
 use Rattle.broker_core.specs.Watched.{Watched, shown, shown_by, group_put, out_put, told_of, watched, watched_since}
 use Rattle.broker_core.specs.Watched.Watched.{Entered, Placed, Passed, Modified, Put}
 use Rattle.lines_explained.specs.declared.explainer.Lines.{Lines}
-use Rattle.lines_explained.specs.Explained.{Begun, Explaining, closed, put_since, opened, explained, peers_after, source_of, fate_before, line_text}
-use Rattle.lines_explained.specs.Journals.{count_joined, is_put_for, is_put_among, was_put, entry_line, lines_since, at_rest}
+use Rattle.lines_explained.specs.KeyWay.{key_before}
+use Rattle.lines_explained.specs.Explained.{Begun, Explaining, closed, passed_since, put_since, opened, explained, peers_after, first_words, fate_before, line_text}
+use Rattle.lines_explained.specs.Journals.{count_joined, is_put_for, is_put_among, was_put, is_pass, has_pass, was_passed, entry_line, lines_since, at_rest}
 
 -- all that is watched, one thing after the other
 abbrev pub all_explained : List Watched → Explaining → Explaining
@@ -34,12 +34,18 @@ explained_append : (a b : List Watched) (x : Explaining) →
 explained_append [] b x = refl
 explained_append (event ∷ a) b x = explained_append a b (explained event x)
 
--- what is watched behind an entry itself: a group that was put changes what is kept of the entry
+-- what is watched after an entry itself: a group that was put, or a key that the shell was told, changes what is kept
+-- of the entry
 
 abbrev has_put : List Watched → Bool
 has_put [] = false
 has_put (Put n q bytes tokens ∷ rest) = true
 has_put (_ ∷ rest) = has_put rest
+
+abbrev has_passed : List Watched → Bool
+has_passed [] = false
+has_passed (Passed n time key state ∷ rest) = true
+has_passed (_ ∷ rest) = has_passed rest
 
 abbrev IsInner : List Watched → Type 0
 IsInner [] = Unit {0}
@@ -50,21 +56,38 @@ abbrev put_by : Bool → Option Begun → Option Begun
 put_by true o = put_since o
 put_by false o = o
 
-put_again : (b : Bool) (o : Option Begun) → put_by b (put_since o) ≡ put_since o
-put_again true None = refl
-put_again true (Some x) = refl
-put_again false o = refl
+abbrev passed_by : Bool → Option Begun → Option Begun
+passed_by true o = passed_since o
+passed_by false o = o
+
+put_again : (b c : Bool) (o : Option Begun) → passed_by b (put_by c (put_since o)) ≡ passed_by b (put_by true o)
+put_again b true None = refl
+put_again b true (Some x) = refl
+put_again b false o = refl
+
+passed_again : (b c : Bool) (o : Option Begun) → passed_by b (put_by c (passed_since o)) ≡ passed_by true (put_by c o)
+passed_again true true None = refl
+passed_again true false None = refl
+passed_again false true None = refl
+passed_again false false None = refl
+passed_again true true (Some x) = refl
+passed_again true false (Some x) = refl
+passed_again false true (Some x) = refl
+passed_again false false (Some x) = refl
 
 all_inner : (events : List Watched) (x : Explaining) → IsInner events →
-    all_explained events x ≡ record x { newest = put_by (has_put events) x.newest }
+    all_explained events x
+    ≡ record x { newest = passed_by (has_passed events) (put_by (has_put events) x.newest) }
 all_inner [] x i = refl
 all_inner (Entered n e act log ∷ rest) x i = absurd i
 all_inner (Placed n q id a b ∷ rest) x i = all_inner rest x i
-all_inner (Passed n time key state ∷ rest) x i = all_inner rest x i
+all_inner (Passed n time key state ∷ rest) x i =
+    all_inner rest (record x { newest = passed_since x.newest }) i
+    ∙ ap (λ (o : Option Begun). record x { newest = o }) (passed_again (has_passed rest) (has_put rest) x.newest)
 all_inner (Modified n mods ∷ rest) x i = all_inner rest x i
 all_inner (Put n q bytes tokens ∷ rest) x i =
     all_inner rest (record x { newest = put_since x.newest }) i
-    ∙ ap (λ (o : Option Begun). record x { newest = o }) (put_again (has_put rest) x.newest)
+    ∙ ap (λ (o : Option Begun). record x { newest = o }) (put_again (has_passed rest) (has_put rest) x.newest)
 
 -- of an entry
 
@@ -84,43 +107,55 @@ put_append (Passed n time key state ∷ a) b = put_append a b
 put_append (Modified n mods ∷ a) b = put_append a b
 put_append (Put n q bytes tokens ∷ a) b = refl
 
--- such a list, and whether a group was put in it
-record Inner (events : List Watched) (b : Bool) : Type 0 where
+passed_append : (a b : List Watched) → has_passed (a ++ b) ≡ (has_passed a || has_passed b)
+passed_append [] b = refl
+passed_append (Entered n e act log ∷ a) b = passed_append a b
+passed_append (Placed n q id x y ∷ a) b = passed_append a b
+passed_append (Passed n time key state ∷ a) b = refl
+passed_append (Modified n mods ∷ a) b = passed_append a b
+passed_append (Put n q bytes tokens ∷ a) b = passed_append a b
+
+-- such a list, and whether the shell was told a key in it, and a group was put
+record Inner (events : List Watched) (p b : Bool) : Type 0 where
   inner : IsInner events
+  passes : has_passed events ≡ p
   puts : has_put events ≡ b
 
-no_events : Inner [] false
-no_events = record { inner = tt; puts = refl }
+no_events : Inner [] false false
+no_events = record { inner = tt; passes = refl; puts = refl }
 
-both : (a b : List Watched) (x y : Bool) → Inner a x → Inner b y → Inner (a ++ b) (x || y)
-both a b x y i j = record {
+both : (a b : List Watched) (o p x y : Bool) → Inner a o x → Inner b p y → Inner (a ++ b) (o || p) (x || y)
+both a b o p x y i j = record {
   inner = inner_append a b i.inner j.inner;
-  puts = put_append a b ∙ ap (λ (p : Bool). p || has_put b) i.puts ∙ ap (λ (p : Bool). x || p) j.puts;
+  passes = passed_append a b ∙ ap (λ (q : Bool). q || has_passed b) i.passes
+      ∙ ap (λ (q : Bool). o || q) j.passes;
+  puts = put_append a b ∙ ap (λ (q : Bool). q || has_put b) i.puts ∙ ap (λ (q : Bool). x || q) j.puts;
 }
 
-one_shown : (n : ℕ) (made : List Made) (peers : List Numbered) (s : Said) → Inner (shown n made peers s) false
-one_shown n made peers (said.Placed popup x y) = record { inner = tt; puts = refl }
-one_shown n made peers (said.Pass time key state) = record { inner = tt; puts = refl }
-one_shown n made peers (said.VMods mods) = record { inner = tt; puts = refl }
+one_shown : (n : ℕ) (made : List Made) (peers : List Numbered) (s : Said) →
+    Inner (shown n made peers s) (is_pass s) false
+one_shown n made peers (said.Placed popup x y) = record { inner = tt; passes = refl; puts = refl }
+one_shown n made peers (said.Pass time key state) = record { inner = tt; passes = refl; puts = refl }
+one_shown n made peers (said.VMods mods) = record { inner = tt; passes = refl; puts = refl }
 one_shown n made peers _ = no_events
 
 all_shown : (n : ℕ) (made : List Made) (peers : List Numbered) (ts : List Told) →
-    Inner (shown_by n made peers ts) false
+    Inner (shown_by n made peers ts) (has_pass ts) false
 all_shown n made peers [] = no_events
 all_shown n made peers (t ∷ ts) =
-    both (shown n made peers t.event) (shown_by n made peers ts) false false (one_shown n made peers t.event)
-    (all_shown n made peers ts)
+    both (shown n made peers t.event) (shown_by n made peers ts) (is_pass t.event) (has_pass ts) false false
+    (one_shown n made peers t.event) (all_shown n made peers ts)
 
-one_put : (n q : ℕ) (group : Piece) → Inner (group_put n q group) (not (length group.bytes == 0))
+one_put : (n q : ℕ) (group : Piece) → Inner (group_put n q group) false (not (length group.bytes == 0))
 one_put n q group = by (length group.bytes == 0)
   where
     by : (b : Bool) →
-        Inner (if b then [] else Put n q group.bytes (map pair_of group.tokens) ∷ []) (not b)
+        Inner (if b then [] else Put n q group.bytes (map pair_of group.tokens) ∷ []) false (not b)
     by true = no_events
-    by false = record { inner = tt; puts = refl }
+    by false = record { inner = tt; passes = refl; puts = refl }
 
 out_puts : (capacity : ℕ) (e : Entry) (older : List Entry) (p : Numbered) →
-    Inner (out_put capacity e older p) (is_put_for capacity e older p)
+    Inner (out_put capacity e older p) false (is_put_for capacity e older p)
 out_puts capacity e older p =
     by (fits capacity (group_at e older p.peer.label)
     (before_group e older p.peer.label (out_for capacity older p.peer.label)))
@@ -129,25 +164,37 @@ out_puts capacity e older p =
     group = group_at e older p.peer.label
 
     by : (b : Bool) →
-        Inner (if b then group_put (length older + 1) p.number group else []) (b && not (length group.bytes == 0))
+        Inner (if b then group_put (length older + 1) p.number group else []) false (b && not (length group.bytes == 0))
     by true = one_put (length older + 1) p.number group
     by false = no_events
 
 all_puts : (capacity : ℕ) (e : Entry) (older : List Entry) (ps : List Numbered) →
-    Inner (flat_map (out_put capacity e older) ps) (is_put_among capacity e older ps)
+    Inner (flat_map (out_put capacity e older) ps) false (is_put_among capacity e older ps)
 all_puts capacity e older [] = no_events
 all_puts capacity e older (p ∷ ps) =
-    both (out_put capacity e older p) (flat_map (out_put capacity e older) ps) (is_put_for capacity e older p)
-    (is_put_among capacity e older ps) (out_puts capacity e older p) (all_puts capacity e older ps)
+    both (out_put capacity e older p) (flat_map (out_put capacity e older) ps) false false
+    (is_put_for capacity e older p) (is_put_among capacity e older ps) (out_puts capacity e older p)
+    (all_puts capacity e older ps)
 
-told_puts : (capacity : ℕ) (e : Entry) (older : List Entry) →
-    Inner (told_of capacity e older) (was_put capacity e older)
-told_puts capacity e older =
+or_none : (b : Bool) → (b || false) ≡ b
+or_none true = refl
+or_none false = refl
+
+told_inner : (capacity : ℕ) (e : Entry) (older : List Entry) →
+    Inner (told_of capacity e older) (was_passed e older || false) (was_put capacity e older)
+told_inner capacity e older =
     let past = past_of (e ∷ older) in
     let peers = numbered 1 past.joined in
     let ts = told (act_at e older) (resolve older) in
-    both (shown_by (length older + 1) past.made peers ts) (flat_map (out_put capacity e older) peers) false
-    (was_put capacity e older) (all_shown (length older + 1) past.made peers ts) (all_puts capacity e older peers)
+    both (shown_by (length older + 1) past.made peers ts) (flat_map (out_put capacity e older) peers) (has_pass ts)
+    false false (was_put capacity e older) (all_shown (length older + 1) past.made peers ts)
+    (all_puts capacity e older peers)
+
+told_puts : (capacity : ℕ) (e : Entry) (older : List Entry) →
+    Inner (told_of capacity e older) (was_passed e older) (was_put capacity e older)
+told_puts capacity e older =
+    let i = told_inner capacity e older in
+    record { inner = i.inner; passes = i.passes ∙ or_none (was_passed e older); puts = i.puts }
 
 -- how many joined
 
@@ -165,10 +212,14 @@ joined_more (entries.Took q bytes) older = refl
 
 -- one entry more
 
-begun_put : (b : Bool) (x : Begun) → x.was_put ≡ false →
-    put_by b (Some x) ≡ Some (record x { was_put = b })
-begun_put true x e = refl
-begun_put false x e = ap (λ (p : Bool). Some (record x { was_put = p })) e
+begun_since : (p b : Bool) (x : Begun) → x.was_passed ≡ false → x.was_put ≡ false →
+    passed_by p (put_by b (Some x)) ≡ Some (record x { was_passed = p; was_put = b })
+begun_since true true x d e = refl
+begun_since true false x d e = ap (λ (q : Bool). Some (record x { was_passed = true; was_put = q })) e
+begun_since false true x d e = ap (λ (q : Bool). Some (record x { was_passed = q; was_put = true })) d
+begun_since false false x d e =
+    ap (λ (q : Bool). Some (record x { was_passed = x.was_passed; was_put = q })) e
+    ∙ ap (λ (q : Bool). Some (record x { was_passed = q; was_put = false })) d
 
 -- finished, the line of an entry that was begun with so many peers
 finished : Lines → ℕ → Entry → List Entry → List ℕ → ℕ → Explaining
@@ -178,9 +229,11 @@ finished which capacity e older text peers =
       text = text
           ++ line_text which (seat (history (resolve (e ∷ older))))
           (Some (record {
-            line = begun (length older + 1) (source_of e peers) (act_at e older);
+            line = first_words (length older + 1) peers e (act_at e older) (resolve older);
             before = seat (history (resolve older));
             fate = fate_before (act_at e older) (resolve older);
+            sent = key_before (act_at e older) (resolve older);
+            was_passed = was_passed e older;
             was_put = was_put capacity e older;
           }));
       newest = None;
@@ -201,16 +254,21 @@ entry_more which capacity e older text x rest =
     let inner = told_puts capacity e older in
     let start : Explaining = opened n e act log (at_rest which older text) in
     let line : Begun = record {
-      line = begun n (source_of e (peers_after e (count_joined older))) act;
+      line = first_words n (peers_after e (count_joined older)) e act log;
       before = seat (history log);
       fate = fate_before act log;
+      sent = key_before act log;
+      was_passed = false;
       was_put = false;
     } in
     ap (λ (y : Explaining). closed here (all_explained (told_of capacity e older) (opened n e act log y))) rest
     ∙ ap (closed here) (all_inner (told_of capacity e older) start inner.inner)
-    ∙ ap (λ (b : Bool). closed here (record start { newest = put_by b (Some line) })) inner.puts
+    ∙ ap (λ (p : Bool). closed here (record start
+    { newest = passed_by p (put_by (has_put (told_of capacity e older)) (Some line)) })) inner.passes
+    ∙ ap (λ (b : Bool). closed here (record start { newest = passed_by (was_passed e older) (put_by b (Some line)) }))
+    inner.puts
     ∙ ap (λ (o : Option Begun). closed here (record start { newest = o }))
-    (begun_put (was_put capacity e older) line refl)
+    (begun_since (was_passed e older) (was_put capacity e older) line refl refl)
     ∙ ap (finished which capacity e older text) (joined_more e older)
 
 -- all entries

@@ -35,7 +35,7 @@ use Rattle.broker_model.specs.Law.{IsAlone}
 use Rattle.broker_model.proofs.OwnersLive.{IsThere, IsOwned, owned, remains_some, holder_there}
 use Rattle.broker_model.proofs.LivePeersJoined.{IsNumbered, numbered as number_of, joined_stays}
 use Rattle.broker_model.proofs.BatchGroupsWhole.{both, at_is, fresh_told, whole_groups}
-use Rattle.broker_audience.specs.Lives.{Numbered}
+use Rattle.broker_core.specs.Lives.{Numbered}
 use Rattle.broker_core.specs.Stands.{numbered}
 use Rattle.broker_core.proofs.BodyLengths.{message_length}
 use Rattle.lines_explained.specs.Journals.{is_put_for, is_put_among, was_put, outcome_at}

@@ -1,18 +1,22 @@
 -- The lines of a journal's entries: what each is, and what came of it.
-use Rattle.std.specs.Prelude.{ℕ, ◌+◌, ◌%◌, ◌^◌, List, [], ◌∷◌, ◌++◌, length, Bool, false, not, ◌&&◌, ◌||◌, ◌==◌, nat_le, if◌then◌else◌, Option, Some, None}
+use Rattle.std.specs.Prelude.{ℕ, ◌+◌, ◌%◌, ◌^◌, List, [], ◌∷◌, ◌++◌, length, Bool, true, false, not, ◌&&◌, ◌||◌, ◌==◌, nat_le, if◌then◌else◌, Option, Some, None}
 use Rattle.std.specs.Option.{option_map}
+use Rattle.relay_model.specs.declared.said.Said.{Said}
+use Rattle.relay_model.specs.declared.said.Said.TheVariants as said
+use Rattle.relay_model.specs.declared.said.Told.{Told}
+use Rattle.relay_model.specs.Told.{told}
 use Rattle.relay_model.specs.Idle.{history}
 use Rattle.relay_reasons.specs.Seat.{seat}
-use Rattle.lines_explained.specs.Deed.{begun}
 use Rattle.lines_explained.specs.declared.outcome.Outcome.{Outcome}
 use Rattle.lines_explained.specs.Outcome.{outcome_of}
 use Rattle.broker_model.specs.declared.journal.Entry.{Entry}
 use Rattle.broker_model.specs.Resolve.{past_of, resolve}
 use Rattle.broker_model.specs.Out.{act_at, group_at, fits, before_group, out_for}
-use Rattle.broker_audience.specs.Lives.{Numbered}
+use Rattle.broker_core.specs.Lives.{Numbered}
 use Rattle.broker_core.specs.Stands.{numbered}
 use Rattle.lines_explained.specs.declared.explainer.Lines.{Lines}
-use Rattle.lines_explained.specs.Explained.{Begun, Explaining, fate_before, source_of, line_text}
+use Rattle.lines_explained.specs.KeyWay.{key_before}
+use Rattle.lines_explained.specs.Explained.{Begun, Explaining, fate_before, first_words, line_text}
 
 -- how many peers joined, modulo 2^32
 abbrev pub count_joined : List Entry → ℕ
@@ -43,14 +47,32 @@ outcome_at capacity e older =
     option_map (λ fate. outcome_of fate (was_put capacity e older))
     (fate_before (act_at e older) (resolve older))
 
--- what is said of the newest entry: what it is, the seat before it, what its batch comes to, and
--- whether a group of it was put
+-- the shell is told a key
+abbrev pub is_pass : Said → Bool
+is_pass (said.Pass time key state) = true
+is_pass _ = false
+
+-- among these events
+abbrev pub has_pass : List Told → Bool
+has_pass [] = false
+has_pass (t ∷ ts) = is_pass t.event || has_pass ts
+
+-- of the newest entry
+abbrev pub was_passed : Entry → List Entry → Bool
+was_passed e older = has_pass (told (act_at e older) (resolve older))
+
+-- what is said of the newest entry: what it is, the seat before it, what its batch comes to, what is
+-- known of its key, and whether the shell was told one, and a group was put
 abbrev pub entry_begun : ℕ → Entry → List Entry → Begun
 entry_begun capacity e older =
     record {
-      line = begun (length older + 1) (source_of e (count_joined (e ∷ older))) (act_at e older);
+      line =
+          first_words (length older + 1) (count_joined (e ∷ older)) e (act_at e older)
+          (resolve older);
       before = seat (history (resolve older));
       fate = fate_before (act_at e older) (resolve older);
+      sent = key_before (act_at e older) (resolve older);
+      was_passed = was_passed e older;
       was_put = was_put capacity e older;
     }
 

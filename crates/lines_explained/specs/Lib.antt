@@ -1,8 +1,11 @@
 pub mod Phrase
 pub mod Deed
 pub mod Outcome
+pub mod Lack
+pub mod KeyWay
 pub mod Changes
 pub mod Laws
 pub mod Explained
 pub mod Journals
 pub mod ReasonLaws
+pub mod KeyLaws

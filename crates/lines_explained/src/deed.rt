@@ -1,6 +1,8 @@
 //! What an act is: how a line begins.
 ghost use Rattle.std.specs.Prelude.{◌≡◌, ◌++◌, Some, None, OnOk, string_bytes};
-ghost use Rattle.lines_explained.specs.Deed.{source_words, end_words, refusal_words, peer_words};
+ghost use Rattle.lines_explained.specs.Deed.{source_words, end_words, rule_of, message_words};
+ghost use Rattle.lines_explained.specs.Deed.{argument_rule, rule_by, rule_for, refusal_words};
+ghost use Rattle.lines_explained.specs.Deed.{idle_words, peer_words};
 ghost use Rattle.lines_explained.specs.Deed.{object_words, shell_words, key_words, field_words, method_words};
 ghost use Rattle.lines_explained.specs.Deed.{deed, begun};
 ghost use Rattle.lines_explained.specs.Phrase.{phrase};
@@ -15,8 +17,19 @@ use wio_core::NoMemory;
 pub enum Source {
     /// The peer with the number.
     Peer(u32),
-    /// The peer with the number, by a message to the object with the id.
-    Object { peer: u32, id: u32 },
+    /// The peer with the number, by a message to the object with the id, with the opcode.
+    Object {
+        peer: u32,
+        id: u32,
+        opcode: u16,
+    },
+    /// The same by a header alone, whose size, in bytes, isn't one of a message.
+    Head {
+        peer: u32,
+        id: u32,
+        opcode: u16,
+        size: u16,
+    },
     /// The shell.
     Shell,
 }
@@ -49,7 +62,7 @@ fn add_source(line: &mut String, source: Source) -> Result<(), NoMemory>
 {
     match source {
         Source::Peer(peer) => add_about(line, " peer", peer, ": "),
-        Source::Object { peer, id } => {
+        Source::Object { peer, id, .. } | Source::Head { peer, id, .. } => {
             add_phrase(line, " peer", Some(peer), " to object", Some(id))?;
             add_words(line, ": ")
         }
@@ -67,17 +80,106 @@ fn add_end(line: &mut String, cause: EndCause) -> Result<(), NoMemory>
     }
 }
 
-// Why a message is refused, in the words that its sender is told.
-fn add_refusal(line: &mut String, fault: Fault) -> Result<(), NoMemory>
-    ensures { OnOk result (string_bytes line.new ≡ string_bytes line.old ++ refusal_words fault) }
+// The rule that a refused message breaks.
+fn rule_of(fault: Fault) -> &'static str
+    ensures { result.now ≡ rule_of fault }
 {
-    add_words(line, "a message is refused: ")?;
-    add_words(line, fault.text())?;
-    Ok(())
+    match fault {
+        Fault::Size => ": a message has 8 to 4096 bytes, a multiple of 4",
+        Fault::Object => ": the id names no live object",
+        Fault::Opcode => ": the object's interface has no such request",
+        Fault::Malformed => ": its bytes spell no arguments of it, or a key's state above 1",
+        Fault::Argument => ": an object argument is 0, not live or of another interface",
+        Fault::NewId => ": the new id is 0, above 4278190079 or live",
+        Fault::TooMany => ": 256 objects of the peer are live",
+        Fault::Bind => ": no global with this name, interface and version is offered",
+        Fault::Capability => ": the seat has no pointer, keyboard or touch",
+        Fault::Role => ": the surface has a popup",
+        Fault::NoKeymap => ": the board has had no keymap",
+    }
 }
 
-fn add_of_peer(line: &mut String, act: &Act) -> Result<(), NoMemory>
-    ensures { OnOk result (string_bytes line.new ≡ string_bytes line.old ++ peer_words act.now) }
+// An object argument, by the opcode of its request.
+fn argument_rule(opcode: u16) -> &'static str
+    ensures { result.now ≡ argument_rule opcode }
+{
+    if opcode == 4 {
+        ": its surface is 0, not live or of another interface"
+    } else {
+        ": its seat is 0, not live or of another interface"
+    }
+}
+
+fn rule_by(opcode: u16, fault: Fault) -> &'static str
+    ensures { result.now ≡ rule_by opcode fault }
+{
+    match fault {
+        Fault::Argument => argument_rule(opcode),
+        _ => rule_of(fault),
+    }
+}
+
+fn rule_for(source: Source, fault: Fault) -> &'static str
+    ensures { result.now ≡ rule_for source fault }
+{
+    match source {
+        Source::Object { opcode, .. } => rule_by(opcode, fault),
+        Source::Head { .. } => rule_of(fault),
+        Source::Peer(_) => rule_of(fault),
+        Source::Shell => rule_of(fault),
+    }
+}
+
+// Which message it was, as far as its header tells.
+fn add_message(line: &mut String, source: Source) -> Result<(), NoMemory>
+    ensures { OnOk result (string_bytes line.new ≡ string_bytes line.old ++ message_words source) }
+{
+    match source {
+        Source::Object { opcode, .. } => {
+            add_about(line, "message", opcode as u32, " is refused: ")
+        }
+        Source::Head { opcode, size, .. } => {
+            add_phrase(
+                line,
+                "message",
+                Some(opcode as u32),
+                " of size",
+                Some(size as u32),
+            )?;
+            add_words(line, " is refused: ")
+        }
+        Source::Peer(_) => add_words(line, "a message is refused: "),
+        Source::Shell => add_words(line, "a message is refused: "),
+    }
+}
+
+// Which message is refused and why, in the words that its sender is told, and the rule.
+fn add_refusal(line: &mut String, source: Source, fault: Fault) -> Result<(), NoMemory>
+    ensures { OnOk result (string_bytes line.new
+        ≡ string_bytes line.old ++ refusal_words source fault) }
+{
+    add_message(line, source)?;
+    add_words(line, fault.text())?;
+    add_words(line, rule_for(source, fault))
+}
+
+// What asks nothing of the seat.
+fn add_idle(line: &mut String, source: Source) -> Result<(), NoMemory>
+    ensures { OnOk result (string_bytes line.new ≡ string_bytes line.old ++ idle_words source) }
+{
+    match source {
+        Source::Peer(_) => add_words(line, "descriptors come"),
+        Source::Object { opcode, .. } => {
+            add_about(line, "message", opcode as u32, " asks nothing")
+        }
+        Source::Head { .. } => add_words(line, "nothing"),
+        Source::Shell => add_words(line, "nothing"),
+    }
+}
+
+fn add_of_peer(line: &mut String, source: Source, act: &Act) -> Result<(), NoMemory>
+    ensures { OnOk result (string_bytes line.new
+        ≡ string_bytes line.old ++ peer_words source act.now) }
 {
     match act {
         Act::Peer => add_words(line, "joins"),
@@ -86,9 +188,9 @@ fn add_of_peer(line: &mut String, act: &Act) -> Result<(), NoMemory>
         Act::Sync { .. } => add_words(line, "sync"),
         Act::Seat { .. } => add_words(line, "binds the seat"),
         Act::Thing { .. } => add_words(line, "binds a global"),
-        Act::Bad { fault, .. } => add_refusal(line, *fault),
+        Act::Bad { fault, .. } => add_refusal(line, source, *fault),
         Act::Took { bytes, .. } => add_about(line, "takes", *bytes, " bytes"),
-        Act::Idle => add_words(line, "nothing"),
+        Act::Idle => add_idle(line, source),
         _ => Ok(()),
     }
 }
@@ -169,10 +271,11 @@ fn add_of_method(line: &mut String, act: &Act) -> Result<(), NoMemory>
 }
 
 // What the act with the number is.
-fn add_deed(line: &mut String, number: u32, act: &Act) -> Result<(), NoMemory>
-    ensures { OnOk result (string_bytes line.new ≡ string_bytes line.old ++ deed number act.now) }
+fn add_deed(line: &mut String, number: u32, source: Source, act: &Act) -> Result<(), NoMemory>
+    ensures { OnOk result (string_bytes line.new
+        ≡ string_bytes line.old ++ deed number source act.now) }
 {
-    add_of_peer(line, act)?;
+    add_of_peer(line, source, act)?;
     add_of_object(line, number, act)?;
     add_of_shell(line, act)?;
     add_of_field(line, act)?;
@@ -187,5 +290,5 @@ pub fn begin_line(line: &mut String, number: u32, source: Source, act: &Act) -> 
     line.clear();
     line.push_str(Buffer::new().format(number))?;
     add_source(line, source)?;
-    add_deed(line, number, act)
+    add_deed(line, number, source, act)
 }

@@ -7,15 +7,16 @@ ghost use Rattle.relay_core.specs.Stands.{StandsFor};
 ghost use Rattle.relay_reasons.specs.Seat.{seat};
 ghost use Rattle.broker_model.specs.declared.journal.Entry.{Entry};
 ghost use Rattle.broker_model.specs.Resolve.{resolve};
-ghost use Rattle.relay_objects.specs.Reached.{Reached};
+ghost use Rattle.broker_core.specs.Reached.{Reached};
 ghost use Rattle.broker_core.specs.Watched.{watched_since};
 ghost use Rattle.lines_explained.specs.Explained.{closed, blank, line_text, opened, IsEither};
 ghost use Rattle.lines_explained.specs.Explained.{begun_of, MayExplain};
 ghost use Rattle.lines_explained.specs.Journals.{at_rest, lines_since};
 ghost use Rattle.lines_explained.specs.declared.explainer.Lines.{Lines};
 
-use crate::begin_line;
-use crate::open::{Open, add_end, fate_before, is_nobody, peers_after, put_since, source_of};
+use crate::open::{
+    Open, add_end, begin_entry, is_nobody, opening_of, passed_since, peers_after, put_since,
+};
 use broker_core::{Entry, Watch};
 use relay_core::Relay;
 use relay_model::{Act, Mods};
@@ -160,12 +161,8 @@ impl Explainer {
         let seat = seat_now(relay);
         self.finish(seat)?;
         self.peers = peers_after(entry, self.peers);
-        begin_line(&mut self.line, number, source_of(entry, self.peers), act)?;
-        self.newest = Some(Open {
-            before: seat,
-            fate: fate_before(relay, act),
-            was_put: false,
-        });
+        begin_entry(&mut self.line, number, self.peers, entry, act, relay)?;
+        self.newest = Some(opening_of(relay, act, seat));
         Ok(())
     }
 
@@ -208,7 +205,12 @@ impl Watch for Explainer {
 
     fn placed(&mut self, _number: u32, _peer: u32, _id: u32, _x: i64, _y: i64) {}
 
-    fn passed(&mut self, _number: u32, _time: u32, _key: u32, _state: u32) {}
+    fn passed(&mut self, _number: u32, _time: u32, _key: u32, _state: u32) {
+        if self.is_short {
+            return;
+        }
+        self.newest = passed_since(self.newest);
+    }
 
     fn modified(&mut self, _number: u32, _mods: Mods) {}
 

@@ -14,7 +14,7 @@ use Rattle.broker_model.specs.Ids.{Made}
 use Rattle.broker_model.specs.Resolve.{past_of, resolve}
 use Rattle.broker_model.specs.Groups.{Piece, pair_of}
 use Rattle.broker_model.specs.Out.{act_at, fits, group_at, before_group, out_for}
-use Rattle.broker_audience.specs.Lives.{Numbered}
+use Rattle.broker_core.specs.Lives.{Numbered}
 use Rattle.broker_core.specs.Stands.{numbered}
 use Rattle.broker_core.specs.Watched.{Watched, shown, shown_by, group_put, out_put, told_of, watched, watched_since}
 use Rattle.broker_core.specs.Watched.Watched.{Entered, Placed, Passed, Modified, Put}

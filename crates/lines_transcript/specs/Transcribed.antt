@@ -13,7 +13,7 @@ use Rattle.broker_model.specs.Ids.{Made, made_as}
 use Rattle.broker_model.specs.Resolve.{past_of, resolve}
 use Rattle.broker_model.specs.Groups.{Piece, pair_of, id_of}
 use Rattle.broker_model.specs.Out.{act_at, group_at, fits, before_group, out_for}
-use Rattle.broker_audience.specs.Lives.{Numbered}
+use Rattle.broker_core.specs.Lives.{Numbered}
 use Rattle.broker_core.specs.Stands.{numbered}
 use Rattle.broker_core.specs.Watched.{number_at, maker}
 

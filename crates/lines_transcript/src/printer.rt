@@ -2,14 +2,13 @@
 ghost use Rattle.std.specs.Prelude.{◌≡◌, ◌++◌, [], ℕ, List, true, false, IfSome, IfNone, IfOk, OnOk};
 ghost use Rattle.std.specs.Prelude.{OnErr, string_bytes};
 ghost use Rattle.broker_model.specs.declared.journal.Entry.{Entry};
-ghost use Rattle.relay_objects.specs.Reached.{Reached};
+ghost use Rattle.broker_core.specs.Reached.{Reached};
 ghost use Rattle.broker_core.specs.Watched.{watched_since};
 ghost use Rattle.lines_transcript.specs.Transcribed.{with_feed, head_text, text_since};
 ghost use Rattle.lines_transcript.specs.Printed.{MayPrint, blank, closed, IsFront};
 
 use crate::{write_ended, write_out, write_pass, write_placed, write_took, write_vmods};
-use broker_core::{Entry, Watch};
-use relay_core::Relay;
+use broker_core::{Entry, Relay, Watch};
 use relay_model::{Act, Mods};
 use std::alloc::Global;
 use std::marker::Model;

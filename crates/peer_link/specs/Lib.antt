@@ -10,3 +10,6 @@ pub mod ReadsShell
 pub mod Submits
 pub mod Ordering
 pub mod Written
+pub use Rattle.broker_cutter.specs.Steps
+pub use Rattle.desc_frame.specs.Frames
+pub use Rattle.desc_frame.specs.declared.Got

@@ -1,10 +1,10 @@
 -- The answers to a shell's orders
 use Rattle.std.specs.Prelude.{ℕ, ◌+◌, ◌==◌, if◌then◌else◌, List, [], ◌∷◌, ◌++◌, length, codes, Option, Some, None}
 use Rattle.std.specs.Fmt.{decimal}
-use Rattle.kbd_grab.specs.declared.keyboard.Route.{Route}
-use Rattle.kbd_grab.specs.declared.keyboard.Route.TheVariants as routes
+use Rattle.relay_model.specs.Route.{Route}
+use Rattle.relay_model.specs.Route.TheVariants as routes
 use Rattle.broker_steps.specs.declared.limits.Limits.{Limits}
-use Rattle.relay_core.specs.Stands.{route_told}
+use Rattle.hub_lock.specs.Stands.{route_told}
 use Rattle.broker_model.specs.declared.journal.Entry.{Entry}
 use Rattle.broker_model.specs.Out.{act_at}
 use Rattle.broker_model.specs.Resolve.{resolve}

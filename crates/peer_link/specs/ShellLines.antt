@@ -6,16 +6,7 @@ use Rattle.broker_steps.specs.declared.step.ShellStep.{ShellStep}
 use Rattle.session_text.specs.declared.line.Form.TheVariants.{Shell}
 use Rattle.session_text.specs.declared.line.Line.TheVariants as text
 use Rattle.session_text.specs.Reading.{line_of}
-
--- lines with their line feeds
-abbrev pub bytes_of : List (List ℕ) → List ℕ
-bytes_of [] = []
-bytes_of (line ∷ lines) = line ++ 10 ∷ bytes_of lines
-
--- no line feed is in these lines
-abbrev pub LackFeeds : List (List ℕ) → Type 0
-LackFeeds [] = Unit {0}
-LackFeeds (line ∷ lines) = LacksFeed line × LackFeeds lines
+pub use Rattle.wio_core.specs.WholeLines.{bytes_of, LackFeeds}
 
 -- the bytes are these lines with their line feeds, and the rest
 pub record HoldLines (bytes : List ℕ) (lines : List (List ℕ)) (rest : List ℕ) : Type 0 where

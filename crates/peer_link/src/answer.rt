@@ -4,8 +4,8 @@ ghost use Rattle.std.specs.Io.KnownBytes.{Appends};
 ghost use Rattle.wio_core.specs.Io.{Rose, StaysQuiet};
 ghost use Rattle.peer_link.specs.ShellAnswers.{answer, answer_end};
 
+use hub_lock::Route;
 use itoa::Buffer;
-use relay_core::Route;
 use wio_core::{Failed, Sink, write_all};
 
 // The most bytes of an answer: a number, a word and a line feed.

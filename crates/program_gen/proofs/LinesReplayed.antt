@@ -18,7 +18,7 @@ use Rattle.broker_model.specs.Resolve.{past_of}
 use Rattle.broker_model.specs.Settle.{number_alive, settle}
 use Rattle.broker_core.specs.Taking.{lives}
 use Rattle.seat_set.specs.Played.{Waiting, Play, Played, went, with_step, step_played, steps_played, with_unread, unread_by, unread_of, bytes_played, with_peer, join_played, take_played, line_played}
-use Rattle.broker_cutter.specs.Steps.{steps_in}
+use Rattle.seat_set.specs.Steps.{steps_in}
 use Rattle.seat_set.specs.Laws.{lines_played, unplayed}
 use Rattle.seat_set.proofs.PrintedStepsAlone.{printed_steps}
 use Rattle.session_gen.specs.Generated.{step_count}

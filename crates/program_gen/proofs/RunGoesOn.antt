@@ -4,7 +4,7 @@ use Rattle.std.specs.List.{count_by}
 use Rattle.broker_steps.specs.declared.step.Step.{Step}
 use Rattle.broker_model.specs.declared.journal.Entry.{Entry}
 use Rattle.broker_model.specs.Limits.{is_end, number_counted}
-use Rattle.relay_objects.specs.Reached.{Reached}
+use Rattle.broker_core.specs.Reached.{Reached}
 use Rattle.broker_core.specs.Broker.{Broker, begun, IsWatched}
 use Rattle.broker_core.specs.Watched.{watched_since}
 use Rattle.seat_set.specs.Playing.{IsShort}

@@ -17,7 +17,7 @@ use Rattle.broker_core.specs.Broker as broker
 use Rattle.broker_core.specs.Broker.{Broker, kept_in, join_refusal, entry_of, refusal, refusal_if_full, take_refusal, take_refusal_from, nothing_left, IsSaid, IsAccepted, IsBytesUnlessMemory}
 use Rattle.broker_core.specs.Stands.{end_of}
 use Rattle.broker_core.specs.Taking.{out_at, IsTaken}
-use Rattle.relay_objects.specs.Reached.{Reached}
+use Rattle.broker_core.specs.Reached.{Reached}
 use Rattle.broker_core.specs.Broker.{IsWatched}
 use Rattle.broker_core.specs.Watched.{Watched}
 use Rattle.broker_core.proofs.WatchedSince.{since_none}

@@ -3,7 +3,7 @@ use Rattle.std.proofs.Common.{◌≡◌, ℕ, ◌-◌, ◌^◌, ◌<◌, ◌≤�
 use Rattle.std.specs.List.{sum_by}
 use Rattle.std.proofs.lemmas.List.Sums.{sum_by-cons}
 use Rattle.broker_model.specs.declared.journal.Entry.{Entry}
-use Rattle.relay_objects.specs.Reached.{Reached}
+use Rattle.broker_core.specs.Reached.{Reached}
 use Rattle.broker_core.specs.Watched.{Watched, watched_since}
 use Rattle.broker_core.specs.Watched.Watched.{Entered, Placed, Passed, Modified, Put}
 use Rattle.program_gen.specs.declared.tally.Tally.{Tally}

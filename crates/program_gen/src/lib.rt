@@ -13,5 +13,6 @@ mod text;
 pub use counts::Counts;
 pub use laws::lines_replay;
 pub use running::count;
+pub use session_gen::{Gen, STEPS};
 pub use summary_line::summary;
 pub use text::{WriteEnd, write_session};

@@ -4,8 +4,7 @@ ghost use Rattle.program_gen.specs.Journals.{method_dones};
 ghost use Rattle.program_gen.specs.Counts.{field_dones, activates};
 
 use crate::events::events_in;
-use broker_core::{Entry, Watch};
-use relay_core::Relay;
+use broker_core::{Entry, Relay, Watch};
 use relay_model::{Act, Mods};
 
 /// The peer that has the input method, and the input method's id there.

@@ -11,7 +11,7 @@ ghost use Rattle.program_gen.specs.Writing.{Writes};
 
 use crate::running::Run;
 use broker_steps::Step;
-use lines_transcript::print_step;
+use seat_set::print_step;
 use std::alloc::{AllocError, Global};
 use thiserror::Error;
 use wio_core::{Failed, NoMemory, Sink, write_all};

@@ -8,7 +8,7 @@ use Rattle.relay_model.specs.Told.{told}
 use Rattle.program_run.specs.declared.act_list.Verdict.{Verdict}
 use Rattle.program_run.specs.declared.act_list.Verdict.TheVariants as verdict
 use Rattle.program_run.specs.declared.act_list.TheConstants.{ACT_LIMIT}
-use Rattle.relay_objects.specs.Fits.{FitsMessage}
+use Rattle.relay_core.specs.Fits.{FitsMessage}
 use Rattle.session_text.specs.declared.line.Form.TheVariants.{Acts}
 use Rattle.session_text.specs.declared.line.Line.{Line}
 use Rattle.session_text.specs.declared.line.Line.TheVariants as line

@@ -2,7 +2,7 @@
 use Rattle.std.proofs.Common.{◌≡◌, List, [], ◌∷◌, ◌++◌, false, string_bytes, ap, sym, ◌∙◌}
 use Rattle.std.proofs.lemmas.List.{append-nil, append_assoc}
 use Rattle.relay_model.specs.declared.said.Told.{Told}
-use Rattle.relay_objects.specs.Reached.{Reached}
+use Rattle.relay_core.specs.Reached.{Reached}
 use Rattle.program_run.specs.declared.printer.Printer.{Printer}
 use Rattle.program_run.specs.Printing.{Prints}
 use Rattle.program_run.specs.Transcript.{told_text, act_text}

@@ -29,3 +29,4 @@ pub mod Migrates
 pub mod LineByLine
 pub mod Explain
 pub mod ExplainScript
+pub use Rattle.program_gen.specs.Texts

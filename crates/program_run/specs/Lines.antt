@@ -1,7 +1,8 @@
 -- How an input falls into lines.
-use Rattle.std.specs.Prelude.{ℕ, ◌+◌, ◌==◌, ◌&&◌, ◌||◌, nat_le, Bool, if◌then◌else◌, List, [], ◌∷◌, ◌++◌, length, take}
+use Rattle.std.specs.Prelude.{ℕ, ◌+◌, ◌==◌, ◌&&◌, ◌||◌, nat_le, Bool, if◌then◌else◌, List, [], ◌∷◌, length, take}
 use Rattle.std.specs.List.{slice_split}
 use Rattle.session_text.specs.Reading.{line_limit}
+pub use Rattle.wio_core.specs.WholeLines.{bytes_of}
 
 -- the most bytes of an input that are read, and of one that is migrated
 abbrev pub input_limit : ℕ
@@ -37,11 +38,6 @@ is_cut limit bytes = length (taken limit bytes) == limit
 -- the lines that are read of an input
 unfoldable pub lines_read : ℕ → List ℕ → List (List ℕ)
 lines_read limit bytes = lines_of (is_cut limit bytes) (taken limit bytes)
-
--- lines with their line feeds
-abbrev pub bytes_of : List (List ℕ) → List ℕ
-bytes_of [] = []
-bytes_of (line ∷ lines) = line ++ 10 ∷ bytes_of lines
 
 -- how many bytes they are, which is where the line after them begins
 abbrev pub size_of : List (List ℕ) → ℕ

@@ -1,7 +1,7 @@
 -- An input that is read up to a line.
 use Rattle.std.specs.Prelude.{ℕ, ◌≡◌, ◌+◌, ◌-◌, ◌<◌, ◌≤◌, ◌⊎◌, Bool, true, false, List, [], ◌∷◌, ◌++◌, length, Option, Some, None, Result, Ok, Err, IfSome, unwrap_or}
 use Rattle.std.specs.Io.KnownBytes.{IsAtEnd}
-use Rattle.wio_core.specs.Lines.{LacksFeed, IsOpen, TookFrom}
+use Rattle.wio_core.specs.Lines.{IsOpen, TookFrom}
 use Rattle.wio_core.specs.LineAnswers.{LinesAhead}
 use Rattle.wio_core.specs.declared.line_reader.LineStop.{LineStop}
 use Rattle.wio_core.specs.declared.line_reader.LineStop.TheVariants as stop
@@ -11,11 +11,7 @@ use Rattle.program_run.specs.declared.status.Status.TheVariants as status
 use Rattle.program_run.specs.Lines.{lines_of, lines_read, is_cut, bytes_of, size_of}
 use Rattle.program_run.specs.Endings.{Answer, with_front, ending}
 use Rattle.program_run.specs.Scripts.{Played, Follows}
-
--- no line feed is in these lines
-abbrev pub LackFeeds : List (List ℕ) → Type 0
-LackFeeds [] = Unit {0}
-LackFeeds (line ∷ lines) = LacksFeed line × LackFeeds lines
+pub use Rattle.wio_core.specs.WholeLines.{LackFeeds}
 
 -- the bytes that were read are these lines and what the reader holds, or they are all, and the last
 -- line may lack its line feed

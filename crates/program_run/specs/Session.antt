@@ -18,6 +18,7 @@ use Rattle.program_run.specs.Lines.{lines_of}
 use Rattle.program_run.specs.Endings.{Answer, with_front, ending, without_end}
 use Rattle.seat_set.specs.Played.{Play, Played, line_played}
 use Rattle.lines_transcript.specs.Transcribed.{journal_text}
+pub use Rattle.seat_set.specs.Laws.{unplayed}
 
 -- the transcript of what was played, and behind it how it ends
 abbrev pub closed : Limits → Play → Answer → Answer
@@ -63,10 +64,6 @@ session_from limits cut n stage play [] = closed limits play (without_end cut n)
 session_from limits cut n stage play (raw ∷ lines) =
     by_meaning limits n play (meaning_of stage raw)
     (λ stamp next. session_from limits cut (n + 1) (next_stage stage stamp) next lines)
-
--- nothing was played yet
-abbrev pub unplayed : Play
-unplayed = record { journal = []; unread = [] }
 
 -- the limits that a line sets, if it is a header
 abbrev pub header_of_line : Option Line → Option Limits

@@ -3,7 +3,7 @@ ghost use Rattle.std.specs.Prelude.{◌≡◌, ◌<◌, ◌∷◌, ◌++◌, ◌
 ghost use Rattle.std.specs.Prelude.{string_bytes, false};
 ghost use Rattle.relay_model.specs.declared.act.Act.{Act};
 ghost use Rattle.relay_model.specs.Told.{told};
-ghost use Rattle.relay_objects.specs.Fits.{FitsMessage};
+ghost use Rattle.relay_core.specs.Fits.{FitsMessage};
 ghost use Rattle.relay_core.specs.Stands.{StandsFor};
 ghost use Rattle.program_run.specs.Transcript.{verdict_of, verdict_of_act, act_text};
 

@@ -26,4 +26,7 @@ mod writing;
 
 pub use laws::replay_law;
 pub use run::run_plain;
+pub use seat_set::{Player, Watch};
+pub use session_text::{Form, Line, read_line};
 pub use status::Status;
+pub use trial_script::{Edits, Ending, read_script};

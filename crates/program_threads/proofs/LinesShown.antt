@@ -1,7 +1,7 @@
 -- The lines that show fields, one after the other.
 use Rattle.std.proofs.Common.{◌≡◌, ℕ, suc, ◌+◌, ◌<◌, List, [], ◌∷◌, ◌++◌, length, take, get_or, sym, ap, ◌∙◌, append_assoc, arith}
 use Rattle.std.proofs.lemmas.List.{append-nil, take_more, length-take}
-use Rattle.client_side.specs.FieldLog.{text_of}
+use Rattle.trial_run.specs.FieldLog.{text_of}
 use Rattle.trial_client_logs.specs.declared.entry.FieldEntry.{FieldEntry}
 use Rattle.trial_client_logs.specs.Logs.{field_log}
 use Rattle.trial_run.specs.Lines.{show_line}

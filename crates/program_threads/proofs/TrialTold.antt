@@ -2,9 +2,9 @@
 use Rattle.std.proofs.Common.{◌≡◌, ℕ, ◌+◌, ◌%◌, ◌/◌, false, List, [], ◌∷◌, map, Option, Some, None, Result, Ok, Err, refl, sym, ap, ◌∙◌, subst}
 use Rattle.std.specs.List.{range_with_len}
 use Rattle.broker_model.specs.declared.journal.Kept.{Kept}
-use Rattle.session_gen.specs.Generated.{word_after}
-use Rattle.trial_script.specs.declared.script.Ending.TheVariants as endings
-use Rattle.trial_script.specs.Scripts.{script_of}
+use Rattle.trial_gen.specs.Generated.{word_after}
+use Rattle.trial_run.specs.Ending.TheVariants as endings
+use Rattle.trial_run.specs.Scripts.{script_of}
 use Rattle.trial_gen.specs.Drawn.{drawn, action_count, action_at, first_actions, script_text, drawn_script}
 use Rattle.trial_gen.proofs.LinesDrawn.{by_kind}
 use Rattle.trial_gen.proofs.ScriptsDrawn.{reads}

@@ -1,7 +1,7 @@
 -- The words that ask for a trial in threads.
 use Rattle.std.specs.Prelude.{ℕ, if◌then◌else◌, List, [], ◌∷◌, codes, Option, None}
 use Rattle.std.specs.Str.{bytes_eq}
-use Rattle.session_text.specs.Words.{long_number_of}
+use Rattle.trial_run.specs.Words.{long_number_of}
 
 -- `trial-threads N`, where N is a decimal number below 2 ^ 64 without a zero in front
 abbrev pub number_named : (word number : List ℕ) → Option ℕ

@@ -2,7 +2,7 @@
 ghost use Rattle.std.specs.Prelude.{◌≡◌, map, string_bytes, if◌then◌else◌, Some, None};
 ghost use Rattle.std.specs.Fmt.{decimal};
 ghost use Rattle.std.specs.Str.{bytes_eq};
-ghost use Rattle.session_text.specs.Words.{long_number_of};
+ghost use Rattle.trial_run.specs.Words.{long_number_of};
 ghost use Rattle.program_threads.specs.Words.{number_named, number_asked};
 
 use itoa::Buffer;

@@ -8,4 +8,6 @@ mod play;
 mod run;
 mod showing;
 
+pub use program_run::{Status, run_plain};
 pub use run::run_threads;
+pub use trial_gen::drawn_script;

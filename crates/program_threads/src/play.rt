@@ -7,12 +7,11 @@ ghost use Rattle.program_threads.specs.Output.{output_of};
 ghost use Rattle.program_threads.specs.Played.{IsPlayed, IsCutOff};
 
 use crate::output::output_of;
-use hub_lock::Gate;
 use std::alloc::Global;
 use std::sync::Wait;
 use std::thread::Threads;
 use trial_gen::drawn_script;
-use trial_threads::{ThreadTrialEnd, run_trial_threads};
+use trial_threads::{Gate, ThreadTrialEnd, run_trial_threads};
 use wio_core::NoMemory;
 
 /// Why nothing is shown.

@@ -10,11 +10,11 @@ ghost use Rattle.program_threads.specs.Played.{IsPlayed, IsCutOff, MayCome};
 
 use crate::command::number_asked;
 use crate::play::{Stop, play};
-use hub_lock::Gate;
 use program_run::Status;
 use std::alloc::Global;
 use std::sync::Wait;
 use std::thread::Threads;
+use trial_threads::Gate;
 use wio_core::{Failed, Sink, write_all};
 
 /// Plays the drawn trial of the number in threads, where the words are `trial-threads` and a

@@ -1,11 +1,11 @@
 //! The line that shows a field.
 ghost use Rattle.std.specs.Prelude.{◌≡◌, ◌∷◌, ◌++◌, IfOk, OnOk, string_bytes};
-ghost use Rattle.session_text.specs.Words.{hex_word};
+ghost use Rattle.trial_run.specs.Words.{hex_word};
 ghost use Rattle.trial_run.specs.Lines.{show_line};
 
 use itoa::Buffer;
 use std::alloc::Global;
-use trial_field::TrialField;
+use trial_run::TrialField;
 use wio_core::NoMemory;
 
 // A space and a word behind a text.

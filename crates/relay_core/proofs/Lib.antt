@@ -34,3 +34,4 @@ pub mod NotOfBoards
 pub mod LiveBoards
 pub mod ToldBounds
 pub mod ToldRooms
+pub use Rattle.kbd_grab.proofs.KeysByCalls

@@ -8,3 +8,7 @@ pub mod KeyCalls
 pub mod Stands
 pub mod KeyboardKept
 pub mod Bounds
+pub use Rattle.relay_objects.specs.Fits
+pub use Rattle.kbd_grab.specs.Keyboard
+pub use Rattle.kbd_grab.specs.Keys
+pub use Rattle.relay_objects.specs.Reached

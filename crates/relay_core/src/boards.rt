@@ -9,12 +9,11 @@ ghost use Rattle.relay_core.specs.BoardKeys.{sent_told, is_for_boards, HasBoard}
 ghost use Rattle.relay_objects.specs.Reached.{Reached};
 
 use crate::machine::Machine;
-use kbd_grab::Route;
+use kbd_grab::{NoMemory, Route};
 use relay_model::{Act, Label};
 use relay_objects::{Post, is_number, tell_board_mods, tell_key};
 use std::alloc::Global;
 use virt_keys::VKeys;
-use wio_core::NoMemory;
 
 /// The boards, and the label of one that was made ahead and isn't there yet.
 #[derive(Drop)]

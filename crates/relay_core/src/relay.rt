@@ -2,14 +2,13 @@
 use crate::boards::{Boards, is_for_boards, tell_sent};
 use crate::machine::Machine;
 use edit_batch::Pending;
-use kbd_grab::{Grab, Route};
+use kbd_grab::{Grab, NoMemory, Route};
 use relay_model::{Act, Label, Size};
 use relay_objects::{Objects, Post, Spare};
 use serial_count::{Count32, Since};
 use std::alloc::Global;
 use std::marker::Model;
 use virt_keys::VKeys;
-use wio_core::NoMemory;
 
 /// The broker's state on one seat: which objects live, which surface has the focus, which field
 /// holds the seat, which method serves, and what is pending. It stands for the list of all acts

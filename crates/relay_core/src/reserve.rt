@@ -1,6 +1,6 @@
 //! What is made before an act.
 ghost use Rattle.std.specs.Prelude.{◌≡◌, ◌-◌, ◌<◌, ◌≤◌, Some, None, OnOk, OnErr, IsTrue};
-ghost use Rattle.wl_wire.specs.Texts.{has_no_zero};
+ghost use Rattle.edit_batch.specs.Texts.{has_no_zero};
 ghost use Rattle.relay_model.specs.declared.act.Act.{Act};
 ghost use Rattle.relay_objects.specs.Objects.{find, field_in};
 ghost use Rattle.relay_core.specs.Kept.{state, HasSpare, text_pending};
@@ -8,8 +8,8 @@ ghost use Rattle.relay_core.specs.Machine.{made, text_around, holder_state};
 
 use crate::machine::Machine;
 use field_state::Field;
+use kbd_grab::NoMemory;
 use relay_model::{Act, Label};
-use wio_core::NoMemory;
 
 fn surrounding_text(field: &Field) -> &str
     ensures text { result.now ≡ text_around field.now.current.surrounding }

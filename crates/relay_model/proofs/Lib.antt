@@ -11,3 +11,4 @@ pub mod PopupLaws
 pub mod BoardsErased
 pub mod HoldErased
 pub mod RelayErased
+pub use Rattle.serial_count.proofs.DonesAgo

@@ -1,5 +1,5 @@
 -- Batches, counts, and what is relayed.
-use Rattle.std.specs.Prelude.{ℕ, ℤ, pos, negsuc, ◌+◌, ◌%◌, ◌^◌, List, [], ◌∷◌, ◌++◌, length, Bool, false, ◌&&◌, ◌==◌, nat_le, if◌then◌else◌, unwrap_or}
+use Rattle.std.specs.Prelude.{ℕ, ℤ, pos, ◌+◌, ◌%◌, ◌^◌, List, [], ◌∷◌, ◌++◌, length, Bool, ◌&&◌, ◌==◌, nat_le, if◌then◌else◌, unwrap_or}
 use Rattle.relay_model.specs.declared.act.Act.{Act}
 use Rattle.relay_model.specs.declared.act.Act.TheVariants.{Commit, MString, MPreedit, MDelete, MCommit}
 use Rattle.relay_model.specs.declared.said.Said.{Said}
@@ -7,6 +7,7 @@ use Rattle.relay_model.specs.declared.said.Said.TheVariants as said
 use Rattle.relay_model.specs.Objects.{next, is_at}
 use Rattle.relay_model.specs.Hold.{holder}
 use Rattle.relay_model.specs.Activation.{begun, fresh}
+pub use Rattle.wl_proto.specs.Zero.{is_zero}
 
 -- what a method deletes round the cursor
 pub record Deletion : Type 0 where
@@ -119,11 +120,6 @@ deletion_said d = (if d.before == 0 && d.after == 0 then [] else said.Delete d.b
 -- the event of a string, unless it is empty
 abbrev pub string_said : List ℕ → List Said
 string_said text = (if length text == 0 then [] else said.CommitString text ∷ [])
-
--- the number is 0
-abbrev pub is_zero : ℤ → Bool
-is_zero (pos n) = n == 0
-is_zero (negsuc n) = false
 
 -- the preedit has no text, and both its cursors are 0
 abbrev pub is_no_preedit : Preedit → Bool

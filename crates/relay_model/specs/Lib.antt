@@ -19,3 +19,6 @@ pub mod HoldRows
 pub mod KeyRows
 pub mod BoardRows
 pub mod SessionRows
+pub use Rattle.serial_count.specs.Serial
+pub use Rattle.kbd_grab.specs.declared.keyboard.Route
+pub use Rattle.popup_place.specs.declared.geometry.Rect

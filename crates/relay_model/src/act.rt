@@ -3,7 +3,7 @@ use crate::fault::Fault;
 use crate::role::Role;
 use kbd_grab::{Keymap, Mods, Repeat};
 use popup_place::{Rect, Size};
-use wl_wire::Text;
+use wl_proto::Text;
 
 /// Names a peer or an object: the number of the act that made it, from 1. Label 0 is the shell.
 pub type Label = u32;

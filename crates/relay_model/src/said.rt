@@ -2,8 +2,7 @@
 use crate::act::Label;
 use crate::fault::Fault;
 use kbd_grab::{Keymap, Mods, Repeat};
-use wl_proto::Interface;
-use wl_wire::Text;
+use wl_proto::{Interface, Text};
 
 /// One event, for the object that it is told to.
 #[derive(Debug, Drop)]

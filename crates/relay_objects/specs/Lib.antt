@@ -10,3 +10,4 @@ pub mod Groups
 pub mod Reached
 pub mod Saying
 pub mod Keyboard
+pub use Rattle.popup_place.specs.declared.geometry.Rect

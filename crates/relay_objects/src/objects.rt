@@ -14,10 +14,10 @@ use crate::listed::{LiveField, LivePopup, has_surface, list_field, list_popup, o
 use crate::object::{Kind, NO_AREA, Object};
 use crate::shelf::Shelf;
 use field_state::{Field, Room};
+use kbd_grab::NoMemory;
 use relay_model::{Act, Label, Rect};
 use std::alloc::Global;
 use std::marker::Model;
-use wio_core::NoMemory;
 
 /// The live objects of a seat, by rising label. Each is found by its label by halves.
 #[derive(Drop)]

@@ -11,11 +11,11 @@ use crate::change::Change;
 use crate::object::Object;
 use crate::place::{Place, key_of, place_of};
 use field_state::Room;
+use kbd_grab::NoMemory;
 use relay_model::Label;
 use slab::Slab;
 use std::alloc::Global;
 use std::marker::Model;
-use wio_core::NoMemory;
 
 /// The live objects, by rising label.
 #[derive(Drop)]

@@ -1,12 +1,12 @@
 //! What is made before an act, so that the act takes no memory.
 ghost use Rattle.std.specs.Prelude.{◌≡◌, [], Some, None, OnOk, OnErr, IsTrue};
-ghost use Rattle.wl_wire.specs.Texts.{has_no_zero};
+ghost use Rattle.field_state.specs.Texts.{has_no_zero};
 
 use field_state::Room;
+use kbd_grab::NoMemory;
 use relay_model::Text;
 use std::alloc::Global;
 use std::mem;
-use wio_core::NoMemory;
 
 /// Copies of the texts that the act may tell, and memory for the texts of a field that had none.
 #[derive(Drop)]

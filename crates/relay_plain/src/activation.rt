@@ -1,6 +1,6 @@
 //! The dones that the serving method is told, and the present activation.
 ghost use Rattle.std.specs.Prelude.{◌≡◌, ◌<◌, ◌^◌, length, false, option_map, None, IfOk};
-ghost use Rattle.serial_count.specs.Serial.{named as position_named};
+ghost use Rattle.relay_model.specs.Serial.{named as position_named};
 ghost use Rattle.relay_model.specs.Activation.{serving, activates, updates, notice, notice_to};
 ghost use Rattle.relay_model.specs.Activation.{dones, begun_by, begun_for, begun, at_position};
 ghost use Rattle.relay_model.specs.Activation.{named, is_from, fresh};

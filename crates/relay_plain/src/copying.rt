@@ -5,7 +5,7 @@ use relay_model::Act;
 use std::alloc::Global;
 use wio_core::NoMemory;
 
-// The same act in memory of its own.
+/// The same act in memory of its own. `NoMemory` is its one error.
 pub fn copy_of_act(alloc: Global, act: &Act) -> Result<Act, NoMemory>
     ensures { IfOk result (λ copy. copy ≡ act.now) }
 {

@@ -8,8 +8,7 @@ use crate::copying::copy_of_act;
 use crate::focus::{entered, focus};
 use crate::keys::is_refused;
 use crate::objects::{alive, has_popup, is_at, is_board, is_field, is_method, is_peer, is_surface};
-use popup_place::Rect;
-use relay_model::{Act, Label, Text};
+use relay_model::{Act, Label, Rect, Text};
 use std::alloc::Global;
 use wio_core::NoMemory;
 

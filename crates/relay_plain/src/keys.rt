@@ -11,8 +11,7 @@ ghost use Rattle.relay_plain.specs.Keys.{goes_of};
 
 use crate::objects::{is_at, is_same, method_of, next};
 use crate::seat::serving_after;
-use kbd_grab::{Keymap, Mods, Repeat};
-use relay_model::{Act, Label};
+use relay_model::{Act, Keymap, Label, Mods, Repeat};
 use std::alloc::Global;
 use wio_core::NoMemory;
 

@@ -21,5 +21,6 @@ pub mod seat;
 mod telling;
 mod told;
 
+pub use copying::copy_of_act;
 pub use plain::plain_told;
-pub use relay_model::{Act, Told};
+pub use relay_model::{Act, Mods, Said, Told};

@@ -14,8 +14,7 @@ use crate::hold::holder;
 use crate::objects::{is_same, method_of, popups, surface_of};
 use crate::seat::serving;
 use crate::telling::{SHELL, tell};
-use popup_place::{Placed, Rect, Size};
-use relay_model::{Act, Label, Said, Told};
+use relay_model::{Act, Label, Placed, Rect, Said, Size, Told};
 use std::alloc::Global;
 use wio_core::NoMemory;
 
@@ -92,7 +91,7 @@ fn origin(log: &[Act]) -> (i32, i32)
 fn place(log: &[Act], surface: Label, rect: Rect) -> Placed
     ensures { result ≡ place log.now surface rect }
 {
-    popup_place::place(screen(log), origin(log), rect, size_of(area(log, surface)))
+    relay_model::place(screen(log), origin(log), rect, size_of(area(log, surface)))
 }
 
 // The surface of the popup, where it is alive, the popup too, and the popup's method serves.

@@ -9,8 +9,8 @@ use Rattle.relay_model.specs.Activation.{serving, dones, begun_of, begun_for, at
 use Rattle.relay_model.specs.Batch.{commit_count}
 use Rattle.relay_model.proofs.ActsOrIdle.{IsHistory}
 use Rattle.relay_model.proofs.ActivationLaws.{dones_few}
-use Rattle.serial_count.specs.Serial.{named as position_named}
-use Rattle.serial_count.proofs.DonesAgo.{before_last, named_is}
+use Rattle.relay_model.specs.Serial.{named as position_named}
+use Rattle.relay_model.proofs.DonesAgo.{before_last, named_is}
 use Rattle.relay_core.specs.Stands.{dones_told, count_from, count_since}
 use Rattle.relay_core.proofs.FreshByNumbers.{fresh_is}
 use Rattle.relay_reasons.specs.declared.fate.Reason.TheVariants.{NotServing, EarlierActivation}

@@ -4,3 +4,6 @@ pub mod Played
 pub mod Unread
 pub mod Playing
 pub mod Laws
+pub use Rattle.broker_cutter.specs.Steps
+pub use Rattle.lines_transcript.specs.Printing
+pub use Rattle.lines_transcript.specs.Transcribed

@@ -1,5 +1,5 @@
 -- A session as far as it is played.
-use Rattle.std.specs.Prelude.{◌≡◌, ℕ, ◌+◌, ◌<◌, ◌==◌, List, [], ◌∷◌, ◌++◌, length, replicate, min, nat_le, Bool, true, false, if◌then◌else◌, string_bytes, Option, Result, Ok, Err, String}
+use Rattle.std.specs.Prelude.{◌≡◌, ℕ, ◌+◌, ◌<◌, ◌==◌, List, [], ◌++◌, length, replicate, min, nat_le, Bool, true, false, if◌then◌else◌, string_bytes, Option, Result, Ok, Err, String}
 use Rattle.std.specs.List.{list_any}
 use Rattle.std.specs.Global.{Global}
 use Rattle.broker_steps.specs.declared.limits.Limits.{Limits}
@@ -24,6 +24,7 @@ use Rattle.seat_set.specs.declared.player.PlayEnd.TheVariants as ends
 use Rattle.seat_set.specs.declared.unread.Found.{Found}
 use Rattle.seat_set.specs.Played.{Waiting, Play, Played, unread_of, with_unread}
 use Rattle.seat_set.specs.Unread.{Finds}
+pub use Rattle.broker_model.specs.Growth.{IsMore}
 
 -- a session that goes on: what was allowed, what was played so far, the stamps of its journal, the
 -- newest first, and how many of the oldest entries were let go
@@ -72,11 +73,6 @@ IsEnough room most out = min room (length (stored out)) ≡ min most (length (st
 abbrev pub IsThere : Step → List Entry → Type 0
 IsThere (steps.Peer q step) journal = (standing_of journal q ≡ Alive) × (lives journal q ≡ true)
 IsThere _ journal = Unit {0}
-
--- the journal has these entries more, the newest first
-pub record IsMore (before after : List Entry) : Type 0 where
-  pub more : List Entry
-  pub is : after ≡ more ++ before
 
 -- The stamp was given with each step that the journal has more, and with no other: whatever was
 -- given with the steps before, the stamps are those for that and this.

@@ -16,6 +16,7 @@ mod unread;
 
 pub use broker_core::{Journal, Kept, Watch};
 pub use laws::{printed_steps, session_law};
+pub use lines_transcript::print_step;
 pub use player::{PlayEnd, Player};
 pub use seat_set::SeatSet;
 pub use session::Stop;

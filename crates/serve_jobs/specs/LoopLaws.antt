@@ -1,7 +1,7 @@
 -- The loop laws of a pass that is given back, over a link that was new when its loop began
 use Rattle.std.specs.Prelude.{◌≡◌, ℕ, List, Option, Some, IfSome}
 use Rattle.wio_core.specs.Io.{StaysQuiet}
-use Rattle.broker_steps.specs.declared.limits.Limits.{Limits}
+use Rattle.hub_lock.specs.Limits.{Limits}
 use Rattle.hub_lock.specs.Passes.{PassSeat, PeerPass}
 use Rattle.peer_link.specs.declared.ends.ReadEnd.{ReadEnd}
 use Rattle.peer_link.specs.declared.ends.WriteEnd.{WriteEnd}

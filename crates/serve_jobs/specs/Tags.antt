@@ -1,7 +1,7 @@
 -- What contracts see of a job and of its result
 use Rattle.std.specs.Prelude.{◌≡◌, ℕ, List, Option, Bool}
 use Rattle.atomic_table.specs.Seated.{TableId}
-use Rattle.broker_steps.specs.declared.limits.Limits.{Limits}
+use Rattle.hub_lock.specs.Limits.{Limits}
 use Rattle.peer_link.specs.declared.ends.ReadEnd.{ReadEnd}
 use Rattle.peer_link.specs.declared.ends.WriteEnd.{WriteEnd}
 use Rattle.peer_link.specs.declared.ends.ShellEnd.{ShellEnd}

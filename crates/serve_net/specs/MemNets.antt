@@ -9,7 +9,8 @@ use Rattle.serve_net.specs.declared.mem_ways.MemIn.{MemIn}
 use Rattle.serve_net.specs.declared.mem_ways.MemOut.{MemOut}
 
 -- a net: which doors are open, when they were opened, the links that wait, the doors of those that
--- it gave, the numbers of the accepts that fail, and how many accepts and faults it had
+-- it gave, how many of these it hung up, the numbers of the accepts that fail, and how many accepts
+-- and faults it had
 pub record NetInMemory : Type 0 where
   pub app : Bool
   pub method : Bool
@@ -17,6 +18,7 @@ pub record NetInMemory : Type 0 where
   pub listens : List (Door × ℕ)
   pub waiting : List MemLink
   pub links : List Door
+  pub hung_up : ℕ
   pub fail : List ℕ
   pub calls : ℕ
   pub faults : ℕ

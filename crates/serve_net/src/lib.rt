@@ -14,3 +14,5 @@ pub use mem_link::MemLink;
 pub use mem_net::MemNet;
 pub use mem_ways::{MemIn, MemOut};
 pub use net::{LinkSink, LinkSource, Net};
+pub use out_store::Past;
+pub use wio_core::{Failed, MemSink, MemSource, Sink};

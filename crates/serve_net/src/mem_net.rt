@@ -26,6 +26,8 @@ pub struct MemNet {
     listens: Past<(Door, u64)>,
     waiting: Vec<MemLink>,
     links: Vec<Door>,
+    // Contracts alone see it.
+    hung_up: u64,
     fail: Vec<u64>,
     calls: u64,
     faults: u64,
@@ -44,6 +46,7 @@ impl Model for MemNet {
       listens = n.listens;
       waiting = n.waiting.items;
       links = n.links.items;
+      hung_up = n.hung_up;
       fail = n.fail.items;
       calls = n.calls;
       faults = n.faults;
@@ -65,6 +68,7 @@ impl MemNet {
           listens = [];
           waiting = links.items;
           links = [];
+          hung_up = 0;
           fail = fail.items;
           calls = 0;
           faults = 0;
@@ -78,6 +82,7 @@ impl MemNet {
             listens: Past::new(),
             waiting: links,
             links: doors,
+            hung_up: 0,
             fail,
             calls: 0,
             faults: 0,
@@ -156,6 +161,8 @@ impl Net for MemNet {
 
     ghost links = { λ n. n.links };
 
+    ghost hung_up = { λ n. n.hung_up };
+
     ghost fault_count = { λ n. n.faults };
 
     /// Never fails.
@@ -172,8 +179,8 @@ impl Net for MemNet {
         Ok(())
     }
 
-    /// Gives the first link that is left for its door.
-    fn accept(&mut self, door: Door) -> Result<(MemIn, MemOut), Failed>
+    /// Gives the first link that is left for its door, and waits for none.
+    fn accept(&mut self, door: Door, _wait: u32) -> Result<(MemIn, MemOut), Failed>
         // It fails in the calls that it was told and where no link waits at the door.
         ensures fails { IsErr result ↔ (Contains self.old.fail (raised self.old.calls) ⊎
             LacksLinkFor door self.old.waiting) }
@@ -205,6 +212,13 @@ impl Net for MemNet {
                 hung_up: false,
             },
         ))
+    }
+
+    /// Nobody waits at a link in memory, and what its ways hold stays.
+    fn hang_up(&mut self)
+        ensures { self.new ≡ record self.old { hung_up = length self.old.links } }
+    {
+        self.hung_up = self.links.len() as u64;
     }
 
     fn faults(&self) -> u64 {

@@ -57,8 +57,9 @@ pub trait LinkSink: Sink + Drop {
         ensures same { number self.new ≡ number self.old };
 }
 
-/// Where links come in. It has four meanings for contracts: for each door whether it is open, the
-/// doors that it opened, the doors of the links that it gave, in order, and how often a call failed.
+/// Where links come in. It has five meanings for contracts: for each door whether it is open, the
+/// doors that it opened, the doors of the links that it gave, in order, how many of these it hung up,
+/// and how often a call failed.
 pub trait Net {
     /// A link's way in.
     type In: LinkSource;
@@ -73,6 +74,9 @@ pub trait Net {
 
     ghost links: { Self → List Door };
 
+    /// From the first link on.
+    ghost hung_up: { Self → ℕ };
+
     ghost fault_count: { Self → ℕ };
 
     /// Opens the door at the path. No call closes a door.
@@ -86,18 +90,21 @@ pub trait Net {
             ≡ (door, length (links self.old)) ∷ listens self.old) }
         ensures none { OnErr result (listens self.new ≡ listens self.old) }
         ensures links { links self.new ≡ links self.old }
+        ensures hung_up { hung_up self.new ≡ hung_up self.old }
         ensures never_falls { fault_count self.old ≤ fault_count self.new }
         ensures cause { OnErr result (Rose (fault_count self.old) (fault_count self.new)) }
         ensures no_fault { OnOk result (fault_count self.new ≡ fault_count self.old) };
 
-    /// Waits for a link at the door, and gives its two ways, which have the link's number. Nothing
-    /// came and went on it so far, nothing failed, and nobody hung up.
-    fn accept(&mut self, door: Door) -> Result<(Self::In, Self::Out), Failed>
+    /// Waits for a link at the door, so many seconds at most, and gives its two ways, which have the
+    /// link's number. Nothing came and went on it so far, nothing failed, and nobody hung up. That
+    /// nobody came in that time is a failure too.
+    fn accept(&mut self, door: Door, wait: u32) -> Result<(Self::In, Self::Out), Failed>
         requires { opened self.old door ≡ true }
         ensures doors { (d : Door) → opened self.new d ≡ opened self.old d }
         ensures listens { listens self.new ≡ listens self.old }
         ensures link { OnOk result (links self.new ≡ links self.old ++ door ∷ []) }
         ensures none { OnErr result (links self.new ≡ links self.old) }
+        ensures hung_up { hung_up self.new ≡ hung_up self.old }
         ensures source { IfOk result (λ link.
             IsNewSource (Self.In.given link.0) (Self.In.fault_count link.0)) }
         ensures sink { IfOk result (λ link.
@@ -110,6 +117,15 @@ pub trait Net {
         ensures never_falls { fault_count self.old ≤ fault_count self.new }
         ensures cause { OnErr result (Rose (fault_count self.old) (fault_count self.new)) }
         ensures no_fault { OnOk result (fault_count self.new ≡ fault_count self.old) };
+
+    /// Hangs all links up that it gave: whoever reads or writes at one, on either side, waits no
+    /// longer. Nothing says that the other sides hear of it, or that no byte comes any more.
+    fn hang_up(&mut self)
+        ensures all { hung_up self.new ≡ length (links self.new) }
+        ensures doors { (d : Door) → opened self.new d ≡ opened self.old d }
+        ensures listens { listens self.new ≡ listens self.old }
+        ensures links { links self.new ≡ links self.old }
+        ensures faults { fault_count self.new ≡ fault_count self.old };
 
     /// How many calls failed so far, up to the greatest `u64`, where the count stands still.
     fn faults(&self) -> u64

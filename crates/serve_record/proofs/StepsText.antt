@@ -8,7 +8,7 @@ use Rattle.broker_steps.specs.declared.limits.Limits.{Limits}
 use Rattle.broker_steps.specs.declared.stamp.Stamp.{Stamp}
 use Rattle.session_text.specs.declared.line.Line.TheVariants.{Header, End}
 use Rattle.broker_model.specs.declared.journal.Entry.{Entry}
-use Rattle.out_store.specs.Long.{kept_at}
+use Rattle.broker_model.specs.Long.{kept_at}
 use Rattle.broker_model.specs.Recorded.{entry_at}
 use Rattle.serve_record.specs.Recorded.{steps_text, text_line, recorded, entry_lines}
 use Rattle.serve_record.specs.Lines.{lines_text, text_at, text_without, stamped_text}

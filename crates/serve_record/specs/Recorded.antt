@@ -2,8 +2,8 @@
 -- stamp before it.
 use Rattle.std.specs.Prelude.{◌≡◌, ℕ, List, [], ◌∷◌, ◌++◌, codes}
 use Rattle.std.specs.List.{flat_map}
-use Rattle.relay_model.specs.declared.act.EndCause.TheVariants.{Gone, Bad, Full}
-use Rattle.relay_model.specs.declared.role.Role.TheVariants.{App}
+use Rattle.broker_steps.specs.EndCause.TheVariants.{Gone, Bad, Full}
+use Rattle.broker_steps.specs.Role.TheVariants.{App}
 use Rattle.broker_steps.specs.declared.limits.Limits.{Limits}
 use Rattle.broker_steps.specs.declared.stamp.Stamp.{Stamp}
 use Rattle.broker_steps.specs.declared.step.ShellStep.TheVariants as shells

@@ -2,7 +2,7 @@
 ghost use Rattle.std.specs.Prelude.{◌≡◌, ◌++◌, length, IfOk, OnOk};
 ghost use Rattle.std.specs.List.{flat_map};
 ghost use Rattle.broker_model.specs.declared.journal.Entry.TheVariants as entries;
-ghost use Rattle.wl_wire.specs.Messages.{IsBad};
+ghost use Rattle.broker_steps.specs.Messages.{IsBad};
 ghost use Rattle.broker_steps.specs.Ranges.{token_limit, IsBody, IsStep, IsWithin};
 ghost use Rattle.hub_lock.specs.Steps.{FitsLine};
 ghost use Rattle.session_text.specs.Steps.{step_line};
@@ -10,12 +10,10 @@ ghost use Rattle.serve_record.specs.Recorded.{entry_lines};
 ghost use Rattle.serve_record.specs.Lines.{lines_of, FitsIfAny, stamped_text};
 
 use broker_model::Entry;
-use broker_steps::{PeerStep, Stamp, Step, TokenList};
+use broker_steps::{Bytes, EndCause, PeerStep, Stamp, Step, TokenList};
 use lines_transcript::print_stamped;
-use relay_model::EndCause;
 use std::alloc::Global;
 use wio_core::NoMemory;
-use wl_wire::Bytes;
 
 // A message as a step. `NoMemory` is its one error.
 fn message(

@@ -12,3 +12,4 @@ pub use laws::recorded_session;
 pub use record::{RecordStop, write_record};
 pub use record_hub::record_handed;
 pub use record_text::RecordText;
+pub use wio_core::{MemSink, MemSource};

@@ -82,6 +82,7 @@ pub record Run (asked : Serving) (before after : Sides) (status : ServeStatus) :
   pub count : ℕ
   pub within : count ≤ length asked.order
   pub doors : after.links ≡ before.links ++ take count (doors_of asked.order)
+  pub hung_up : after.hung_up ≡ length after.links
   pub accepted : Result (Unit {0}) Stop
   pub links : LinksStarted hub first linked before.started after.started asked.order
       (length before.links + 1) count accepted
@@ -141,6 +142,7 @@ law_of asked before after status run =
       accepted = run.count;
       within = run.within;
       doors = run.doors;
+      hung_up = run.hung_up;
       joined = links.joined;
       none_more = links.none_more;
       near = links.near;

@@ -1,3 +1,4 @@
+pub mod DisplaysTold
 pub mod EndsKept
 pub mod FullJournals
 pub mod GoneAlone
@@ -12,9 +13,13 @@ pub mod LinksInOrder
 pub mod LinksStart
 pub mod NumbersTaken
 pub mod OnlyRootJoins
+pub mod OthersSpeak
 pub mod PassesBack
 pub mod RecorderOut
 pub mod ResultsInOrder
 pub mod RootKept
+pub mod SilentPasses
+pub mod SilentPeersStay
 pub mod StartsCounted
 pub mod StatusWritten
+pub use Rattle.hub_lock.proofs.HubCrosses

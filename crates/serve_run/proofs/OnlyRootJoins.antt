@@ -4,14 +4,13 @@ use Rattle.std.specs.Prelude.{◌&&◌}
 use mathlib.Core.Logic.{dite, ∥∥₁_elim}
 use mathlib.Core.Bool.{Bool-set}
 use native.Mathlib.Decide.{ℕ_discrete}
-use Rattle.relay_model.specs.declared.act.EndCause.TheVariants.{Gone}
 use Rattle.broker_steps.specs.declared.limits.Limits.{Limits}
-use Rattle.wl_wire.specs.Messages.{messages, bad_size, bad_size_at, behind}
+use Rattle.broker_steps.specs.Messages.{messages, bad_size, bad_size_at, behind}
 use Rattle.broker_model.specs.declared.journal.Entry.{Entry}
 use Rattle.broker_model.specs.declared.journal.Entry.TheVariants as entries
-use Rattle.desc_frame.specs.declared.Got.{Got}
-use Rattle.desc_frame.specs.Frames.{Frame}
-use Rattle.broker_cutter.specs.Steps.{message_entry, bad_entries, steps_in}
+use Rattle.peer_link.specs.Got.{Got}
+use Rattle.peer_link.specs.Frames.{Frame}
+use Rattle.peer_link.specs.Steps.{message_entry, bad_entries, steps_in}
 use Rattle.turn_lock.specs.Pairs.{own, HasSeen, IsIn}
 use Rattle.turn_lock.proofs.PairsOfNumbers.{own-here, own-else, own-seen}
 use Rattle.hub_lock.specs.declared.step.OuterStep.{OuterStep}
@@ -20,7 +19,7 @@ use Rattle.hub_lock.specs.Passes.{PassSeat, PeerPass}
 use Rattle.peer_link.specs.declared.ends.ReadEnd.{ReadEnd}
 use Rattle.peer_link.specs.declared.ends.ReadEnd.TheVariants as ends
 use Rattle.peer_link.specs.Made.{entries_by}
-use Rattle.peer_link.specs.LinkSteps.{token_steps, steps_unless_bad, byte_steps, steps_behind, link_steps}
+use Rattle.peer_link.specs.LinkSteps.{token_steps, steps_unless_bad, byte_steps, steps_behind}
 use Rattle.peer_link.specs.ReadsPeer.{ReadsPeer, StopsAt, StopsBy, MadeAll, MadeBefore, EndsAs, gone_after}
 use Rattle.serve_jobs.specs.Tags.{Report, End, Part}
 use Rattle.serve_jobs.specs.Tags.End.{read, wrote, ordered}
@@ -185,9 +184,7 @@ plain_reports limits h (r ∷ given) laws = (
 
 plain_alone : (limits : Limits) (h : History) (n : ℕ) → IsGoneAlone limits h n → PlainAt h n
 plain_alone limits h n gone =
-    plain_at h n gone.pass.seat gone.number gone.seen
-    (⊎_elim (λ (e : entries_by gone.pass.seat ≡ entries.End gone.pass.peer Gone ∷ []). ap all_plain e)
-    (λ e. ap all_plain e.0) gone.says)
+    plain_at h n gone.pass.seat gone.number gone.seen (ap all_plain gone.says)
 
 plain_unserved_by : (limits : Limits) (h : History) (n : ℕ) (part : Part) → MadeBy limits h n part → PlainAt h n
 plain_unserved_by limits h n reader made = plain_alone limits h n made

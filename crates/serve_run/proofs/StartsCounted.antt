@@ -21,6 +21,13 @@ rose_since a b c same rose = subst (λ n. Rose n c) same rose
 pub rose_until : (a b c : ℕ) → Rose a b → c ≡ b → Rose a c
 rose_until a b c rose same = same ∙ rose
 
+-- doors that were open stay so where none was shut since
+
+pub stay_open : {D : Type 0} {before after : D → Bool} (r : Result (Unit {0}) Stop) →
+    ((d : D) → after d ≡ before d) → OnOk r ((d : D) → before d ≡ true) → OnOk r ((d : D) → after d ≡ true)
+stay_open (Ok done) same stood = λ d. same d ∙ stood d
+stay_open (Err stop) same stood = tt
+
 -- why a job lacks
 
 pub may_lack : (stop : Stop) → stopped stop ≡ stopped stops.NoThread → MayLack stop

@@ -8,3 +8,4 @@ pub mod Statuses
 pub mod Unserved
 pub mod Written
 pub mod Ended
+pub use Rattle.serve_words.specs.Words

@@ -30,6 +30,7 @@ pub record Sides : Type 0 where
   pub opened : Door → Bool
   pub listens : List (Door × ℕ)
   pub links : List Door
+  pub hung_up : ℕ
   pub net_faults : ℕ
   pub started : List Tag
   pub reports : List Report
@@ -38,13 +39,15 @@ pub record Sides : Type 0 where
   pub held : Option (List ℕ)
   pub output_faults : ℕ
 
-abbrev pub sides : (Door → Bool) → List (Door × ℕ) → List Door → ℕ → List Tag → List Report → ℕ →
-    ℕ → Option (List ℕ) → ℕ → Sides
-sides opened listens links net_faults started reports before_start refusals held output_faults =
+abbrev pub sides : (Door → Bool) → List (Door × ℕ) → List Door → ℕ → ℕ → List Tag → List Report →
+    ℕ → ℕ → Option (List ℕ) → ℕ → Sides
+sides opened listens links hung_up net_faults started reports before_start refusals held
+    output_faults =
     record {
       opened = opened;
       listens = listens;
       links = links;
+      hung_up = hung_up;
       net_faults = net_faults;
       started = started;
       reports = reports;
@@ -90,6 +93,8 @@ pub record ServerLaw (asked : Serving) (before after : Sides) (status : ServeSta
   pub accepted : ℕ
   pub within : accepted ≤ length asked.order
   pub doors : after.links ≡ before.links ++ take accepted (doors_of asked.order)
+  -- each was hung up, where the record couldn't be written too
+  pub hung_up : after.hung_up ≡ length after.links
   -- each was joined, or all but the last; the root's steps are the joins of these, in order, there
   -- are no other joins, and each other step is of the pass of a job of these links
   pub joined : ℕ
@@ -109,7 +114,7 @@ pub record ServerLaw (asked : Serving) (before after : Sides) (status : ServeSta
   pub before_last : passes_of (take (joined - 1) asked.order) ≤ served
   pub laws : HaveLaws asked.limits history given
   -- some lack only where memory or a thread did, and no join was refused; of those a reader's pass
-  -- says that its link is gone, so that its peer has its end, and no other anything
+  -- says that its link is gone, and nothing else, and no other pass says anything
   pub lacks : (served ≡ passes_of (take joined asked.order))
       ⊎ (IfErr stop MayLack × (joined ≡ accepted))
   pub unserved : AreUnserved asked.limits history

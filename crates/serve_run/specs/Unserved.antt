@@ -1,5 +1,5 @@
 -- What the passes made whose jobs weren't started
-use Rattle.std.specs.Prelude.{◌≡◌, ◌⊎◌, ℕ, List, [], ◌∷◌, Some}
+use Rattle.std.specs.Prelude.{◌≡◌, ℕ, List, [], ◌∷◌, Some}
 use Rattle.relay_model.specs.declared.act.EndCause.{EndCause}
 use Rattle.relay_model.specs.declared.act.EndCause.TheVariants.{Gone}
 use Rattle.broker_steps.specs.declared.limits.Limits.{Limits}
@@ -14,12 +14,9 @@ use Rattle.serve_jobs.specs.Tags.{Part}
 use Rattle.serve_jobs.specs.Tags.Part.{reader, writer, shell}
 use Rattle.serve_run.specs.LinkJobs.{LinkedJob}
 
--- all that the pass said is that its peer's link is gone; nothing, where the peer had ended
-abbrev pub SaysGone : Limits → PeerPass → Type 0
-SaysGone limits p =
-    (entries_by p.seat ≡ entries.End p.peer Gone ∷ [])
-    ⊎ ((entries_by p.seat ≡ []) × (cause : EndCause)
-    × (end_of (journal_of limits p.seat.seen) p.peer ≡ Some cause))
+-- all that the pass said is that its peer's link is gone
+abbrev pub SaysGone : PeerPass → Type 0
+SaysGone p = entries_by p.seat ≡ entries.End p.peer Gone ∷ []
 
 -- the journal has an end of the peer
 abbrev pub HasEnd : List Entry → ℕ → Type 0
@@ -32,7 +29,7 @@ pub record IsGoneAlone (limits : Limits) (h : History) (n : ℕ) : Type 0 where
   pub number : pass.seat.number ≡ n
   pub seen : HasSeen h n pass.seat.seen
   pub reads : reader_of pass.seat.seen pass.peer ≡ Some n
-  pub says : SaysGone limits pass
+  pub says : SaysGone pass
   pub ended : HasEnd (journal_of limits h) pass.peer
 
 -- a reader that doesn't run says that its link is gone, and any other job nothing

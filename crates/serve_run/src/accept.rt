@@ -54,7 +54,8 @@ fn start_link<R: Wait, S: LinkSource, K: LinkSink, G: Gate + Drop, W: Spawner<Li
     }
 }
 
-/// Accepts a link for each letter, in order, and starts its jobs.
+/// Accepts a link for each letter, in order, and starts its jobs. It waits so many seconds at most
+/// for each.
 pub(crate) fn accept_all<R: Wait, N: Net, G: Gate + Drop, W: Spawner<LinkJob<N::In, N::Out, G>>>(
     rt: &R,
     alloc: Global,
@@ -64,6 +65,7 @@ pub(crate) fn accept_all<R: Wait, N: Net, G: Gate + Drop, W: Spawner<LinkJob<N::
     spawner: &mut W,
     gate: &Arc<G, Global>,
     letters: &[u8],
+    wait: u32,
 ) -> Result<(), Stop>
     requires ready { (w : _) (j : _) → W.ready w j }
     requires root { IsRootOf (arc_value hub.now) root.old }
@@ -83,7 +85,7 @@ pub(crate) fn accept_all<R: Wait, N: Net, G: Gate + Drop, W: Spawner<LinkJob<N::
 {
     for letter in letters {
         let role = role_of(*letter);
-        let (source, sink) = match net.accept(door_of(*letter)) {
+        let (source, sink) = match net.accept(door_of(*letter), wait) {
             Ok(link) => link,
             Err(Failed) => return Err(Stop::NetFault),
         };

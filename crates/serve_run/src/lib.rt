@@ -12,6 +12,7 @@ mod start;
 mod status;
 mod stop;
 
+pub use hub_lock::Gate;
 pub use serve::run_serve;
 pub use status::ServeStatus;
 pub use stop::{Stop, Trouble};

@@ -56,7 +56,17 @@ fn serve_links<R: Wait, N: Net, G: Gate + Drop, W: Spawner<LinkJob<N::In, N::Out
         N.fault_count net.new ≡ N.fault_count net.old }
 {
     match open_all(net, asked) {
-        Ok(()) => accept_all(rt, alloc, hub, root, net, spawner, gate, asked.order),
+        Ok(()) => accept_all(
+            rt,
+            alloc,
+            hub,
+            root,
+            net,
+            spawner,
+            gate,
+            asked.order,
+            asked.wait,
+        ),
         Err(Failed) => Err(Stop::NetFault),
     }
 }
@@ -80,10 +90,10 @@ fn serve_by<R: Wait, N: Net, W: Spawner<LinkJob<N::In, N::Out, G>>, G: Gate + Dr
     requires new { root.old ≡
         fresh_seat (arc_value hub.now).turn 0 (Some (arc_value hub.now).limits) [] }
     ensures law { ServerLaw (asked' asked.now)
-        (sides (N.opened net.old) (N.listens net.old) (N.links net.old) (N.fault_count net.old)
+        (sides (N.opened net.old) (N.listens net.old) (N.links net.old) (N.hung_up net.old) (N.fault_count net.old)
         (W.started spawner.old) (W.reports spawner.old) (W.before_start spawner.old)
         (W.refusal_count spawner.old) (K.held output.old) (K.fault_count output.old))
-        (sides (N.opened net.new) (N.listens net.new) (N.links net.new) (N.fault_count net.new)
+        (sides (N.opened net.new) (N.listens net.new) (N.links net.new) (N.hung_up net.new) (N.fault_count net.new)
         (W.started spawner.new) (W.reports spawner.new) (W.before_start spawner.new)
         (W.refusal_count spawner.new) (K.held output.new) (K.fault_count output.new)) result }
 {
@@ -94,6 +104,7 @@ fn serve_by<R: Wait, N: Net, W: Spawner<LinkJob<N::In, N::Out, G>>, G: Gate + Dr
         &asked.limits,
         &**hub,
         root,
+        net,
         spawner,
         accepted,
         output,
@@ -117,10 +128,10 @@ fn serve<R: Wait, N: Net, W: Spawner<LinkJob<N::In, N::Out, G>>, G: Gate + Drop,
     ensures law { ((result ≡ ServeStatus.NoMemory) × (net.new ≡ net.old)
         × (spawner.new ≡ spawner.old) × (output.new ≡ output.old))
         ⊎ ServerLaw (asked' asked.now)
-        (sides (N.opened net.old) (N.listens net.old) (N.links net.old) (N.fault_count net.old)
+        (sides (N.opened net.old) (N.listens net.old) (N.links net.old) (N.hung_up net.old) (N.fault_count net.old)
         (W.started spawner.old) (W.reports spawner.old) (W.before_start spawner.old)
         (W.refusal_count spawner.old) (K.held output.old) (K.fault_count output.old))
-        (sides (N.opened net.new) (N.listens net.new) (N.links net.new) (N.fault_count net.new)
+        (sides (N.opened net.new) (N.listens net.new) (N.links net.new) (N.hung_up net.new) (N.fault_count net.new)
         (W.started spawner.new) (W.reports spawner.new) (W.before_start spawner.new)
         (W.refusal_count spawner.new) (K.held output.new) (K.fault_count output.new)) result }
 {
@@ -139,8 +150,9 @@ fn serve<R: Wait, N: Net, W: Spawner<LinkJob<N::In, N::Out, G>>, G: Gate + Drop,
 /// per letter of the order, joins those of applications and methods, and starts a reader and a
 /// writer for each, or one job for a shell. Where a door, a link, a join or a start fails it accepts
 /// no further links, and lets the jobs that run go on to their ends. It then writes the hub's
-/// recorded session as its entries come, and its end when all are done. The spawner has given the
-/// results of all that it started before. (Wait: it promises what it does if it returns.)
+/// recorded session as its entries come, and its end when all are done. Where that can't be written
+/// it hangs all links up at once. The spawner has given the results of all that it started before.
+/// (Wait: it promises what it does if it returns.)
 pub fn run_serve<R: Wait, N: Net, W: Spawner<LinkJob<N::In, N::Out, G>>, G: Gate + Drop, K: Sink>(
     rt: &R,
     alloc: Global,
@@ -167,10 +179,10 @@ pub fn run_serve<R: Wait, N: Net, W: Spawner<LinkJob<N::In, N::Out, G>>, G: Gate
         ((result ≡ ServeStatus.NoMemory) × (net.new ≡ net.old)
         × (spawner.new ≡ spawner.old) × (output.new ≡ output.old))
         ⊎ ServerLaw asked
-        (sides (N.opened net.old) (N.listens net.old) (N.links net.old) (N.fault_count net.old)
+        (sides (N.opened net.old) (N.listens net.old) (N.links net.old) (N.hung_up net.old) (N.fault_count net.old)
         (W.started spawner.old) (W.reports spawner.old) (W.before_start spawner.old)
         (W.refusal_count spawner.old) (K.held output.old) (K.fault_count output.old))
-        (sides (N.opened net.new) (N.listens net.new) (N.links net.new) (N.fault_count net.new)
+        (sides (N.opened net.new) (N.listens net.new) (N.links net.new) (N.hung_up net.new) (N.fault_count net.new)
         (W.started spawner.new) (W.reports spawner.new) (W.before_start spawner.new)
         (W.refusal_count spawner.new) (K.held output.new) (K.fault_count output.new)) result) }
 {

@@ -44,7 +44,7 @@ fn say_gone<R: Wait>(rt: &R, hub: &Hub, pass: &mut ReaderPass)
     requires own { IsOf hub.now pass.old.seat }
     requires fresh { steps_of pass.old.seat ≡ 0 }
     ensures pass { pass.new ≡ pass_having_seen pass.old pass.new.seat.seen }
-    ensures says { SaysGone hub.now.limits pass.new }
+    ensures says { SaysGone pass.new }
     ensures ended { HasEnd (journal_of hub.now.limits pass.new.seat.seen) pass.new.peer }
     ensures reads { reader_of pass.new.seat.seen pass.new.peer ≡ Some pass.new.seat.number }
 {

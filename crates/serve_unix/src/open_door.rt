@@ -70,16 +70,17 @@ impl<R: Files<File = File> + Copy> OpenDoor<R> {
         }
     }
 
-    /// Waits for a link. Fails where the socket file is gone from its path.
-    pub(crate) fn accept(&self) -> io::Result<UnixStream> {
-        for _ in 0..u64::MAX {
+    /// Waits for a link, so many seconds at most. Fails also where the socket file is gone from its
+    /// path.
+    pub(crate) fn accept(&self, wait: u32) -> io::Result<UnixStream> {
+        for _ in 0..u64::from(wait).div_ceil(LOOK) {
             match self.listener.accept() {
                 Ok((stream, _from)) => return Ok(stream),
                 Err(error) if error.kind() == ErrorKind::WouldBlock && self.stands() => {}
                 Err(error) => return Err(error),
             }
         }
-        Err(io::Error::from(ErrorKind::WouldBlock))
+        Err(io::Error::from(ErrorKind::TimedOut))
     }
 }
 

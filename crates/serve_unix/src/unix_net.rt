@@ -3,13 +3,14 @@ ghost use Rattle.std.specs.Prelude.{◌≡◌, ◌≤◌, [], ◌∷◌, None, I
 ghost use Rattle.wio_core.specs.Io.{raised};
 ghost use Rattle.serve_unix.specs.Opened.{is_open};
 
+use crate::link_ends::LinkEnds;
 use crate::open_door::OpenDoor;
 use crate::unix_sink::UnixSink;
 use crate::unix_source::UnixSource;
-use out_store::Past;
-use serve_net::{Door, LinkSink, LinkSource, Net};
+use serve_net::{Door, LinkSink, LinkSource, Net, Past};
 use std::alloc::Global;
 use std::fs::{File, Files};
+use std::os::unix::net::UnixStream;
 use std::time::Duration;
 use std::{io, net};
 use wio_core::{Failed, Sink, Source};
@@ -29,6 +30,9 @@ pub struct UnixNet<R: Files<File = File> + Copy> {
     // Contracts alone see it.
     listens: Past<(Door, u64)>,
     links: Vec<Door>,
+    ends: LinkEnds,
+    // Contracts alone see it.
+    hung_up: u64,
     faults: u64,
 }
 
@@ -40,6 +44,7 @@ impl<R: Files<File = File> + net::Net + Copy> UnixNet<R> {
         ensures shell_is_shut { ⟦<UnixNet<R> as Net>⟧.opened result Door.Shell ≡ false }
         ensures no_listen_yet { ⟦<UnixNet<R> as Net>⟧.listens result ≡ [] }
         ensures no_link_yet { ⟦<UnixNet<R> as Net>⟧.links result ≡ [] }
+        ensures none_hung_up { ⟦<UnixNet<R> as Net>⟧.hung_up result ≡ 0 }
         ensures no_fault_yet { ⟦<UnixNet<R> as Net>⟧.fault_count result ≡ 0 }
     {
         UnixNet {
@@ -50,6 +55,8 @@ impl<R: Files<File = File> + net::Net + Copy> UnixNet<R> {
             shell: None,
             listens: Past::new(),
             links: Vec::new(alloc),
+            ends: LinkEnds::new(alloc),
+            hung_up: 0,
             faults: 0,
         }
     }
@@ -87,10 +94,11 @@ impl<R: Files<File = File> + Copy> UnixNet<R> {
     }
 }
 
-// Waits for a link, and gives its two ways, with this number.
-fn accept_link<R: Files<File = File> + Copy>(
+// The two ways of the link of a stream that came in, with this number.
+fn ways_of(
     alloc: Global,
-    door: &OpenDoor<R>,
+    stream: UnixStream,
+    ends: &mut LinkEnds,
     number: u64,
 ) -> io::Result<(UnixSource, UnixSink)>
     ensures gave { IfOk result (λ link. ⟦<UnixSource as Source>⟧.given link.0 ≡ None) }
@@ -101,11 +109,11 @@ fn accept_link<R: Files<File = File> + Copy>(
     ensures number_in { IfOk result (λ link. ⟦<UnixSource as LinkSource>⟧.number link.0 ≡ number) }
     ensures number_out { IfOk result (λ link. ⟦<UnixSink as LinkSink>⟧.number link.1 ≡ number) }
 {
-    let stream = door.accept()?;
     stream.set_write_timeout(Some(Duration::from_secs(PATIENCE)))?;
     let out = stream.try_clone()?;
+    let is_over = ends.keep(alloc, stream.try_clone()?)?;
     Ok((
-        UnixSource::new(alloc, stream, number)?,
+        UnixSource::new(alloc, stream, number, is_over)?,
         UnixSink::new(out, number),
     ))
 }
@@ -120,6 +128,8 @@ impl<R: Files<File = File> + net::Net + Copy> Net for UnixNet<R> {
     ghost listens = { λ n. n.listens };
 
     ghost links = { λ n. n.links.items };
+
+    ghost hung_up = { λ n. n.hung_up };
 
     ghost fault_count = { λ n. n.faults };
 
@@ -140,7 +150,7 @@ impl<R: Files<File = File> + net::Net + Copy> Net for UnixNet<R> {
         Ok(())
     }
 
-    fn accept(&mut self, door: Door) -> Result<(UnixSource, UnixSink), Failed> {
+    fn accept(&mut self, door: Door, wait: u32) -> Result<(UnixSource, UnixSink), Failed> {
         let number = self.links.len() as u64 + 1;
         let opened = match door {
             Door::App => &self.app,
@@ -148,13 +158,22 @@ impl<R: Files<File = File> + net::Net + Copy> Net for UnixNet<R> {
             Door::Shell => &self.shell,
         };
         let Some(opened) = opened else { unreachable!() };
-        let Ok(link) = accept_link(self.alloc, opened, number) else {
+        let Ok(stream) = opened.accept(wait) else {
+            return self.fault();
+        };
+        let Ok(link) = ways_of(self.alloc, stream, &mut self.ends, number) else {
             return self.fault();
         };
         if self.links.push(door).is_err() {
             return self.fault();
         }
         Ok(link)
+    }
+
+    /// The sources give nothing more, also of what had come.
+    fn hang_up(&mut self) {
+        self.ends.hang_up();
+        self.hung_up = self.links.len() as u64;
     }
 
     fn faults(&self) -> u64 {

@@ -188,22 +188,38 @@ pairs_taken (word ∷ value ∷ rest) h pairs few settles =
 stands_few : (word : List ℕ) (words : List (List ℕ)) → is_option word ≡ true → stand_once_at_most words ≡ true
     → length (values_of word words) ≤ 1
 stands_few word words names few =
-    let to_store = both (stands_once_at_most (codes "--app") words && stands_once_at_most (codes "--method") words &&
-    stands_once_at_most (codes "--shell") words && stands_once_at_most (codes "--order") words &&
-    stands_once_at_most (codes "--entries") words && stands_once_at_most (codes "--store") words) _ few in
-    let to_entries = both (stands_once_at_most (codes "--app") words && stands_once_at_most (codes "--method") words &&
-    stands_once_at_most (codes "--shell") words && stands_once_at_most (codes "--order") words &&
+    let to_weight = both (stands_once_at_most (codes "--app") words &&
+    stands_once_at_most (codes "--method") words &&
+    stands_once_at_most (codes "--shell") words &&
+    stands_once_at_most (codes "--order") words &&
+    stands_once_at_most (codes "--entries") words &&
+    stands_once_at_most (codes "--store") words &&
+    stands_once_at_most (codes "--weight") words) _ few in
+    let to_store = both (stands_once_at_most (codes "--app") words &&
+    stands_once_at_most (codes "--method") words &&
+    stands_once_at_most (codes "--shell") words &&
+    stands_once_at_most (codes "--order") words &&
+    stands_once_at_most (codes "--entries") words &&
+    stands_once_at_most (codes "--store") words) _ to_weight.0 in
+    let to_entries = both (stands_once_at_most (codes "--app") words &&
+    stands_once_at_most (codes "--method") words &&
+    stands_once_at_most (codes "--shell") words &&
+    stands_once_at_most (codes "--order") words &&
     stands_once_at_most (codes "--entries") words) _ to_store.0 in
-    let to_order = both (stands_once_at_most (codes "--app") words && stands_once_at_most (codes "--method") words &&
-    stands_once_at_most (codes "--shell") words && stands_once_at_most (codes "--order") words) _ to_entries.0 in
-    let to_shell = both (stands_once_at_most (codes "--app") words && stands_once_at_most (codes "--method") words &&
+    let to_order = both (stands_once_at_most (codes "--app") words &&
+    stands_once_at_most (codes "--method") words &&
+    stands_once_at_most (codes "--shell") words &&
+    stands_once_at_most (codes "--order") words) _ to_entries.0 in
+    let to_shell = both (stands_once_at_most (codes "--app") words &&
+    stands_once_at_most (codes "--method") words &&
     stands_once_at_most (codes "--shell") words) _ to_order.0 in
-    let to_method =
-    both (stands_once_at_most (codes "--app") words && stands_once_at_most (codes "--method") words) _ to_shell.0 in
+    let to_method = both (stands_once_at_most (codes "--app") words &&
+    stands_once_at_most (codes "--method") words) _ to_shell.0 in
     let first = both (stands_once_at_most (codes "--app") words) _ to_method.0 in
     by_option (λ w. length (values_of w words) ≤ 1) (leb-true _ _ first.0) (leb-true _ _ first.1)
     (leb-true _ _ to_method.1)
-    (leb-true _ _ to_shell.1) (leb-true _ _ to_order.1) (leb-true _ _ to_entries.1) (leb-true _ _ to_store.1) word names
+    (leb-true _ _ to_shell.1) (leb-true _ _ to_order.1) (leb-true _ _ to_entries.1) (leb-true _ _ to_store.1)
+    (leb-true _ _ to_weight.1) word names
 
 -- the walk over words of the shape
 words_taken : (words : List (List ℕ)) → has_shape words ≡ true → IsTaken words nothing_held
@@ -240,7 +256,8 @@ no_defaults (name ∷ names) rows =
 
 abbrev names : List (List ℕ)
 names =
-    codes "app" ∷ codes "method" ∷ codes "shell" ∷ codes "order" ∷ codes "entries" ∷ codes "store" ∷ codes "weight" ∷ []
+    codes "app" ∷ codes "method" ∷ codes "shell" ∷ codes "order" ∷ codes "entries" ∷ codes "store" ∷ codes "weight"
+    ∷ codes "wait" ∷ []
 
 -- the first row of an option has the first of its values
 first_pairs : (name : List ℕ) (words : List (List ℕ)) → are_pairs words ≡ true

@@ -19,7 +19,7 @@ abbrev pub rules : List Rule
 rules =
     ready (codes "app") ∷ ready (codes "method") ∷ ready (codes "shell") ∷ ready (codes "order") ∷
     ready (codes "entries")
-    ∷ ready (codes "store") ∷ ready (codes "weight") ∷ []
+    ∷ ready (codes "store") ∷ ready (codes "weight") ∷ ready (codes "wait") ∷ []
 
 abbrev pub top : Shape
 top = (built serve_app).top
@@ -54,37 +54,41 @@ known_store = record { dashes = refl; long = refl; not_end = refl; by_long = ref
 known_weight : IsKnown (codes "--weight") (codes "weight")
 known_weight = record { dashes = refl; long = refl; not_end = refl; by_long = refl; by_id = refl; self = refl }
 
+known_wait : IsKnown (codes "--wait") (codes "wait")
+known_wait = record { dashes = refl; long = refl; not_end = refl; by_long = refl; by_id = refl; self = refl }
+
 -- what holds of each option holds of a word that names one
 pub by_option : (P : List ℕ → Type 0) → P (codes "--app") → P (codes "--method") → P (codes "--shell") →
     P (codes "--order")
-    → P (codes "--entries") → P (codes "--store") → P (codes "--weight") → (word : List ℕ) → is_option word ≡
-    true → P word
-by_option P app method shell order entries store weight word is =
+    → P (codes "--entries") → P (codes "--store") → P (codes "--weight") → P (codes "--wait") → (word : List ℕ)
+    → is_option word ≡ true → P word
+by_option P app method shell order entries store weight wait word is =
     go (bytes_eq word (codes "--app")) (bytes_eq word (codes "--method")) (bytes_eq word (codes "--shell"))
     (bytes_eq word (codes "--order")) (bytes_eq word (codes "--entries")) (bytes_eq word (codes "--store"))
-    (bytes_eq word (codes "--weight")) refl refl refl refl refl refl refl is
+    (bytes_eq word (codes "--weight")) (bytes_eq word (codes "--wait")) refl refl refl refl refl refl refl refl is
   where
     here : (text : List ℕ) → P text → bytes_eq word text ≡ true → P word
     here text p same = subst P (sym ((bytes_eq-Decides word text).0 same)) p
 
-    go : (a b c d e f g : Bool) → bytes_eq word (codes "--app") ≡ a → bytes_eq word (codes "--method") ≡ b
+    go : (a b c d e f g h : Bool) → bytes_eq word (codes "--app") ≡ a → bytes_eq word (codes "--method") ≡ b
         → bytes_eq word (codes "--shell") ≡ c → bytes_eq word (codes "--order") ≡ d →
         bytes_eq word (codes "--entries") ≡ e
         → bytes_eq word (codes "--store") ≡ f → bytes_eq word (codes "--weight") ≡ g
-        → (a || b || c || d || e || f || g) ≡ true → P word
-    go true b c d e f g p q r s t u v any = here (codes "--app") app p
-    go false true c d e f g p q r s t u v any = here (codes "--method") method q
-    go false false true d e f g p q r s t u v any = here (codes "--shell") shell r
-    go false false false true e f g p q r s t u v any = here (codes "--order") order s
-    go false false false false true f g p q r s t u v any = here (codes "--entries") entries t
-    go false false false false false true g p q r s t u v any = here (codes "--store") store u
-    go false false false false false false true p q r s t u v any = here (codes "--weight") weight v
-    go false false false false false false false p q r s t u v any = absurd cc
+        → bytes_eq word (codes "--wait") ≡ h → (a || b || c || d || e || f || g || h) ≡ true → P word
+    go true b c d e f g h p q r s t u v w any = here (codes "--app") app p
+    go false true c d e f g h p q r s t u v w any = here (codes "--method") method q
+    go false false true d e f g h p q r s t u v w any = here (codes "--shell") shell r
+    go false false false true e f g h p q r s t u v w any = here (codes "--order") order s
+    go false false false false true f g h p q r s t u v w any = here (codes "--entries") entries t
+    go false false false false false true g h p q r s t u v w any = here (codes "--store") store u
+    go false false false false false false true h p q r s t u v w any = here (codes "--weight") weight v
+    go false false false false false false false true p q r s t u v w any = here (codes "--wait") wait w
+    go false false false false false false false false p q r s t u v w any = absurd cc
 
 pub known : (word : List ℕ) → is_option word ≡ true → IsKnown word (drop 2 word)
 known =
     by_option (λ w. IsKnown w (drop 2 w)) known_app known_method known_shell known_order known_entries known_store
-    known_weight
+    known_weight known_wait
 
 -- ---- a word that names an option
 

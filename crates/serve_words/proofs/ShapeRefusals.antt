@@ -5,7 +5,7 @@ use Rattle.broker_steps.specs.declared.limits.Limits.{Limits}
 use Rattle.broker_steps.specs.Ranges.{entry_limit, store_limit, weight_limit}
 use Rattle.session_text.specs.Words.{◌>>=◌, kept}
 use Rattle.serve_words.specs.Shape.{has_shape, stand_once_at_most, stands_once_at_most}
-use Rattle.serve_words.specs.Words.{Needed, Serving, are_pairs, asked_by, is_order, limits_of, needed_by, number_or, once, order_of, serve_of, serving, values_of}
+use Rattle.serve_words.specs.Words.{Needed, Serving, are_pairs, asked_by, is_order, limits_of, needed_by, number_or, once, order_of, serve_of, serving, values_of, wait_of}
 
 once_many : (values : List (List ℕ)) → nat_le (length values) 1 ≡ false → once values ≡ None
 once_many [] many = absurd cc
@@ -57,12 +57,17 @@ no_weight None s = refl
 no_weight (Some entries) None = refl
 no_weight (Some entries) (Some store) = refl
 
-abbrev asked_from : Option Needed → Option Limits → Option Serving
-asked_from n l = n >>= (λ needed. l >>= (λ limits. Some (serving needed limits)))
+abbrev asked_from : Option Needed → Option Limits → Option ℕ → Option Serving
+asked_from n l w = n >>= (λ needed. l >>= (λ limits. w >>= (λ wait. Some (serving needed limits wait))))
 
-no_limits : (n : Option Needed) → asked_from n None ≡ None
-no_limits None = refl
-no_limits (Some needed) = refl
+no_limits : (n : Option Needed) (w : Option ℕ) → asked_from n None w ≡ None
+no_limits None w = refl
+no_limits (Some needed) w = refl
+
+no_wait : (n : Option Needed) (l : Option Limits) → asked_from n l None ≡ None
+no_wait None l = refl
+no_wait (Some needed) None = refl
+no_wait (Some needed) (Some limits) = refl
 
 abbrev one_of : (name : List ℕ) → List (List ℕ) → Option (List ℕ)
 one_of name words = once (values_of name words)
@@ -77,10 +82,15 @@ abbrev weight_in : List (List ℕ) → Option ℕ
 weight_in words = number_or 134217728 weight_limit (values_of (codes "--weight") words)
 
 unneeded : (words : List (List ℕ)) → needed_by words ≡ None → asked_by words ≡ None
-unneeded words none = ap (λ n. asked_from n (limits_of words)) none
+unneeded words none = ap (λ n. asked_from n (limits_of words) (wait_of words)) none
 
 unlimited : (words : List (List ℕ)) → limits_of words ≡ None → asked_by words ≡ None
-unlimited words none = ap (asked_from (needed_by words)) none ∙ no_limits (needed_by words)
+unlimited words none =
+    ap (λ l. asked_from (needed_by words) l (wait_of words)) none ∙ no_limits (needed_by words) (wait_of words)
+
+unwaited : (words : List (List ℕ)) → wait_of words ≡ None → asked_by words ≡ None
+unwaited words none =
+    ap (asked_from (needed_by words) (limits_of words)) none ∙ no_wait (needed_by words) (limits_of words)
 
 two_of : (name : List ℕ) (words : List (List ℕ)) → stands_once_at_most name words ≡ false → one_of name words ≡ None
 two_of name words many = once_many (values_of name words) many
@@ -125,27 +135,40 @@ two_weights words many =
     (number_many 134217728 weight_limit (values_of (codes "--weight") words) many)
     ∙ no_weight (entries_in words) (store_in words))
 
+two_waits : (words : List (List ℕ)) → stands_once_at_most (codes "--wait") words ≡ false → asked_by words ≡ None
+two_waits words many = unwaited words (number_many 4294967295 4294967295 (values_of (codes "--wait") words) many)
+
 -- an option that stands twice
 repeated : (words : List (List ℕ)) → stand_once_at_most words ≡ false → asked_by words ≡ None
 repeated words bad =
-    go (stands_once_at_most (codes "--app") words) (stands_once_at_most (codes "--method") words)
-    (stands_once_at_most (codes "--shell") words) (stands_once_at_most (codes "--order") words)
-    (stands_once_at_most (codes "--entries") words) (stands_once_at_most (codes "--store") words)
-    (stands_once_at_most (codes "--weight") words) refl refl refl refl refl refl refl bad
+    go (stands_once_at_most (codes "--app") words)
+    (stands_once_at_most (codes "--method") words)
+    (stands_once_at_most (codes "--shell") words)
+    (stands_once_at_most (codes "--order") words)
+    (stands_once_at_most (codes "--entries") words)
+    (stands_once_at_most (codes "--store") words)
+    (stands_once_at_most (codes "--weight") words)
+    (stands_once_at_most (codes "--wait") words)
+    refl refl refl refl refl refl refl refl bad
   where
-    go : (one two three four five six seven : Bool) → stands_once_at_most (codes "--app") words ≡ one
-        → stands_once_at_most (codes "--method") words ≡ two → stands_once_at_most (codes "--shell") words ≡ three
-        → stands_once_at_most (codes "--order") words ≡ four → stands_once_at_most (codes "--entries") words ≡ five
-        → stands_once_at_most (codes "--store") words ≡ six → stands_once_at_most (codes "--weight") words ≡ seven
-        → (one && two && three && four && five && six && seven) ≡ false → asked_by words ≡ None
-    go false b c d f g h p q r u v w x lacks = two_apps words p
-    go true false c d f g h p q r u v w x lacks = two_methods words q
-    go true true false d f g h p q r u v w x lacks = two_shells words r
-    go true true true false f g h p q r u v w x lacks = two_orders words u
-    go true true true true false g h p q r u v w x lacks = two_entries words v
-    go true true true true true false h p q r u v w x lacks = two_stores words w
-    go true true true true true true false p q r u v w x lacks = two_weights words x
-    go true true true true true true true p q r u v w x lacks = absurd cc
+    go : (one two three four five six seven eight : Bool) → stands_once_at_most (codes "--app") words ≡ one
+        → stands_once_at_most (codes "--method") words ≡ two
+        → stands_once_at_most (codes "--shell") words ≡ three
+        → stands_once_at_most (codes "--order") words ≡ four
+        → stands_once_at_most (codes "--entries") words ≡ five
+        → stands_once_at_most (codes "--store") words ≡ six
+        → stands_once_at_most (codes "--weight") words ≡ seven
+        → stands_once_at_most (codes "--wait") words ≡ eight
+        → (one && two && three && four && five && six && seven && eight) ≡ false → asked_by words ≡ None
+    go false c d e f g h i p q r u v x y z lacks = two_apps words p
+    go true false d e f g h i p q r u v x y z lacks = two_methods words q
+    go true true false e f g h i p q r u v x y z lacks = two_shells words r
+    go true true true false f g h i p q r u v x y z lacks = two_orders words u
+    go true true true true false g h i p q r u v x y z lacks = two_entries words v
+    go true true true true true false h i p q r u v x y z lacks = two_stores words x
+    go true true true true true true false i p q r u v x y z lacks = two_weights words y
+    go true true true true true true true false p q r u v x y z lacks = two_waits words z
+    go true true true true true true true true p q r u v x y z lacks = absurd cc
 
 no_shape : (named : Bool) (words : List (List ℕ)) → has_shape words ≡ false
     → (if named && are_pairs words then asked_by words else None) ≡ None

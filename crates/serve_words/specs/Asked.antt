@@ -10,6 +10,7 @@ asked s = record {
   shell = s.shell.now;
   order = s.order.now;
   limits = s.limits;
+  wait = s.wait;
 }
 
 -- what has to be given

@@ -19,13 +19,13 @@ abbrev pub bare_app : App
 bare_app = on_top (λ s. record s { no_binary_name = true; disable_help_flag = true })
     (new_app (codes "serve"))
 
--- the command with the seven options
+-- the command with the eight options
 abbrev pub serve_app : App
 serve_app =
-    with_rule (with_rule (with_rule (with_rule (with_rule (with_rule (with_rule bare_app
+    with_rule (with_rule (with_rule (with_rule (with_rule (with_rule (with_rule (with_rule bare_app
     (option_rule (codes "app"))) (option_rule (codes "method"))) (option_rule (codes "shell")))
     (option_rule (codes "order"))) (option_rule (codes "entries"))) (option_rule (codes "store")))
-    (option_rule (codes "weight"))
+    (option_rule (codes "weight"))) (option_rule (codes "wait"))
 
 -- none, or the one
 abbrev pub listed : Option (List ℕ) → List (List ℕ)

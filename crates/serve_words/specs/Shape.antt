@@ -13,7 +13,7 @@ stand_once_at_most words =
     stands_once_at_most (codes "--app") words && stands_once_at_most (codes "--method") words
     && stands_once_at_most (codes "--shell") words && stands_once_at_most (codes "--order") words
     && stands_once_at_most (codes "--entries") words && stands_once_at_most (codes "--store") words
-    && stands_once_at_most (codes "--weight") words
+    && stands_once_at_most (codes "--weight") words && stands_once_at_most (codes "--wait") words
 
 -- pairs of an option and a value, each option at most once
 abbrev pub has_shape : List (List ℕ) → Bool

@@ -8,14 +8,15 @@ use Rattle.session_text.specs.Words.{count_of, ◌>>=◌, kept}
 use Rattle.serve_net.specs.declared.door.Door.{Door}
 use Rattle.serve_net.specs.declared.door.Door.TheVariants.{App, Method, Shell}
 
--- what the words ask for: the doors' paths, the letters of the links to accept, in order, and the
--- hub's limits
+-- what the words ask for: the doors' paths, the letters of the links to accept, in order, the hub's
+-- limits, and how many seconds each link is waited for at most
 pub record Serving : Type 0 where
   pub app : List ℕ
   pub method : List ℕ
   pub shell : List ℕ
   pub order : List ℕ
   pub limits : Limits
+  pub wait : ℕ
 
 -- a word that names an option
 abbrev pub is_option : List ℕ → Bool
@@ -23,7 +24,7 @@ is_option w =
     bytes_eq w (codes "--app") || bytes_eq w (codes "--method") || bytes_eq w (codes "--shell")
     || bytes_eq w (codes "--order") || bytes_eq w (codes "--entries") ||
     bytes_eq w (codes "--store")
-    || bytes_eq w (codes "--weight")
+    || bytes_eq w (codes "--weight") || bytes_eq w (codes "--wait")
 
 -- a value isn't empty and doesn't begin with a minus sign
 abbrev pub is_value : List ℕ → Bool
@@ -82,6 +83,10 @@ limits_of words =
     >>= (λ store. number_or 134217728 weight_limit (values_of (codes "--weight") words)
     >>= (λ weight. Some (record { entries = entries; store = store; weight = weight }))))
 
+-- the seconds that the pairs set, or else some 136 years
+abbrev pub wait_of : List (List ℕ) → Option ℕ
+wait_of words = number_or 4294967295 4294967295 (values_of (codes "--wait") words)
+
 -- the letters of the links to accept
 abbrev pub order_of : List (List ℕ) → Option (List ℕ)
 order_of words = kept is_order (once (values_of (codes "--order") words))
@@ -101,20 +106,22 @@ needed_by words =
     >>= (λ shell. order_of words
     >>= (λ order. Some (record { app = app; method = method; shell = shell; order = order })))))
 
--- what is asked for by what has to be given, and these limits
-abbrev pub serving : Needed → Limits → Serving
-serving n limits = record {
+-- what is asked for by what has to be given, these limits and this wait
+abbrev pub serving : Needed → Limits → ℕ → Serving
+serving n limits wait = record {
   app = n.app;
   method = n.method;
   shell = n.shell;
   order = n.order;
   limits = limits;
+  wait = wait;
 }
 
 -- what pairs ask for
 abbrev pub asked_by : List (List ℕ) → Option Serving
 asked_by words =
-    needed_by words >>= (λ needed. limits_of words >>= (λ limits. Some (serving needed limits)))
+    needed_by words >>= (λ needed. limits_of words
+    >>= (λ limits. wait_of words >>= (λ wait. Some (serving needed limits wait))))
 
 -- what the words ask for, which begin with `serve`; none, where they are in no grammar
 abbrev pub serve_of : List (List ℕ) → Option Serving

@@ -31,7 +31,8 @@ fn command<'a>(alloc: Global) -> Result<Command<'a>, AllocError>
         .arg(option(alloc, "order"))?
         .arg(option(alloc, "entries"))?
         .arg(option(alloc, "store"))?
-        .arg(option(alloc, "weight"))
+        .arg(option(alloc, "weight"))?
+        .arg(option(alloc, "wait"))
 }
 
 /// What `clap` reads of pairs, each option of which stands at most once. It takes them all, and

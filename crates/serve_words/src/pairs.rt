@@ -16,6 +16,7 @@ fn is_option(word: &str) -> bool
         || word == "--entries"
         || word == "--store"
         || word == "--weight"
+        || word == "--wait"
 }
 
 // Whether the word may be a value.
@@ -86,6 +87,7 @@ fn stand_once_at_most(words: &[String]) -> bool
         && stands_once_at_most(words, "--entries")
         && stands_once_at_most(words, "--store")
         && stands_once_at_most(words, "--weight")
+        && stands_once_at_most(words, "--wait")
 }
 
 /// Whether the words are pairs of an option and a value, each option at most once.

@@ -22,11 +22,14 @@ use serve_net::Door;
 // What a store holds where the words don't say it, in bytes.
 const STORE: u32 = 65_536;
 
+// The most seconds that each link is waited for, which stand where the words don't say it.
+const WAIT: u32 = u32::MAX;
+
 // The most letters of an order.
 const MOST_LETTERS: usize = 64;
 
 /// What the words ask for: the doors' paths, the letters of the links to accept, 1 to 64 in order,
-/// and the hub's limits.
+/// the hub's limits, and how long each link is waited for.
 #[derive(Clone, Copy)]
 pub struct Serving<'a> {
     /// The path of the applications' door.
@@ -39,6 +42,8 @@ pub struct Serving<'a> {
     pub order: &'a [u8],
     /// The hub's limits.
     pub limits: Limits,
+    /// How many seconds each link is waited for at most, from 1 to 4,294,967,295.
+    pub wait: u32,
 }
 
 // What has to be given.
@@ -101,6 +106,13 @@ fn limits_of(matches: &ArgMatches<'_>) -> Result<Limits, WordsRefusal>
     })
 }
 
+fn wait_of(matches: &ArgMatches<'_>) -> Result<u32, WordsRefusal>
+    ensures told { (words : List (List ℕ)) → HoldsValues matches.now words →
+        Tells (λ n. n) result (grammar.wait_of words) }
+{
+    number_or(matches, "wait", WAIT, WAIT)
+}
+
 fn order_of<'a>(matches: &ArgMatches<'a>) -> Option<&'a [u8]>
     ensures few { IfSome result (λ order. IsWithin 64 (length order.now)) }
     ensures told { (words : List (List ℕ)) → HoldsValues matches.now words →
@@ -142,12 +154,14 @@ fn asked_by<'a>(matches: &ArgMatches<'a>) -> Result<Serving<'a>, WordsRefusal>
         return Err(WordsRefusal::BadWords);
     };
     let limits = limits_of(matches)?;
+    let wait = wait_of(matches)?;
     Ok(Serving {
         app: needed.app,
         method: needed.method,
         shell: needed.shell,
         order: needed.order,
         limits,
+        wait,
     })
 }
 

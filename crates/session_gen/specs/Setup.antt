@@ -2,19 +2,12 @@
 use Rattle.std.specs.Prelude.{ℕ, List, [], ◌∷◌, ◌++◌, map}
 use Rattle.wl_proto.specs.declared.interface.Interface.TheVariants.{Compositor, Seat, TextInputManager, InputMethodManager}
 use Rattle.wl_proto.specs.declared.request.Request.TheVariants.{GetRegistry, CreateSurface, GetTextInput, GetInputMethod}
-use Rattle.wl_proto.specs.Rows.{Message, request_message}
+use Rattle.wl_proto.specs.Rows.{request_message}
 use Rattle.relay_model.specs.declared.role.Role.TheVariants.{App, Method}
 use Rattle.broker_steps.specs.declared.step.Step.{Step}
 use Rattle.broker_steps.specs.declared.step.Step.TheVariants as steps
 use Rattle.session_gen.specs.Sending.{sends, bind}
-
--- a message, and the id of the object that it is sent to
-pub record Sent : Type 0 where
-  pub object : ℕ
-  pub message : Message
-
-abbrev pub to : ℕ → Message → Sent
-to id m = record { object = id; message = m }
+pub use Rattle.wl_proto.specs.Sent.{Sent, to}
 
 -- an app peer gets a surface 6 and a text input 7
 abbrev pub app_messages : List Sent

@@ -8,8 +8,7 @@ ghost use Rattle.session_gen.specs.Sending.{IsShort, sends};
 use broker_steps::{PeerStep, Step};
 use std::alloc::Global;
 use wio_core::NoMemory;
-use wl_proto::{Request, write_request};
-use wl_wire::Bytes;
+use wl_proto::{Bytes, Request, write_request};
 
 /// The most bytes of a message that a generated session sends, its header included.
 const LONGEST: usize = 64;

@@ -6,16 +6,13 @@ use Rattle.session_text.specs.declared.line.Line.{Line}
 use Rattle.session_text.specs.declared.line.Line.TheVariants as lines
 use Rattle.session_text.specs.declared.line.SessionLine.TheVariants as sessions
 use Rattle.relay_model.specs.declared.role.Role.TheVariants.{App, Method, Keyed}
-use Rattle.broker_steps.specs.declared.stamp.Stamp.{Stamp}
 use Rattle.broker_steps.specs.declared.step.ShellStep.TheVariants as shells
 use Rattle.session_text.specs.Words.{rect}
 use Rattle.session_text.specs.Reading.{line_of}
+pub use Rattle.broker_steps.specs.StampRows.{stamp}
 
 abbrev pub Says : Form → List ℕ → Line → Type 0
 Says form text line = line_of form text ≡ Some line
-
-abbrev pub stamp : ℕ → ℕ → Stamp
-stamp moment author = record { moment = moment; author = author }
 
 abbrev pub IsNoLine : Form → List ℕ → Type 0
 IsNoLine form text = line_of form text ≡ None

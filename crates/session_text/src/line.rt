@@ -92,10 +92,10 @@ impl From<AllocError> for BadLine {
     }
 }
 
-impl From<wio_core::NoMemory> for BadLine {
+impl From<wl_wire::NoMemory> for BadLine {
     ghost from_gives = { λ _ e. e ≡ NoMemory };
 
-    fn from(_: wio_core::NoMemory) -> Self {
+    fn from(_: wl_wire::NoMemory) -> Self {
         BadLine::NoMemory
     }
 }

@@ -6,10 +6,9 @@ ghost use Rattle.hub_lock.specs.Passes.{IsOf};
 
 use crate::equal::{equal, equal_at};
 use crate::peer::{LIMITS, step_of};
-use broker_core::{Applied, Refused, Took};
+use broker_core::{Applied, Refused, Route, Took};
 use broker_steps::{PeerStep, ShellStep};
 use hub_lock::{Hub, HubPass, NoSession, Pass, ReaderPass, Session, ShellPass, WriterPass};
-use relay_core::Route;
 use relay_model::{EndCause, Role};
 use std::alloc::Global;
 use std::process::Abort;

@@ -1,7 +1,7 @@
 //! Peers of a hub, as jobs for threads: passes, each with its hub, and what a link in memory gives and takes.
 ghost use Rattle.std.specs.Prelude.{◌≡◌, IfSome};
 ghost use Rattle.broker_steps.specs.Ranges.{IsPeerStep};
-ghost use Rattle.turn_lock.specs.Pairs.{NoneOf};
+ghost use Rattle.hub_lock.specs.Pairs.{NoneOf};
 ghost use Rattle.hub_lock.specs.Passes.{IsOf};
 
 use broker_core::Took;

@@ -2,8 +2,7 @@
 ghost use Rattle.std.specs.Prelude.{◌≡◌, ◌≤◌};
 
 use crate::peer::LIMITS;
-use broker_core::{Shared, Took};
-use broker_model::{Entry, Journal};
+use broker_core::{Entry, Journal, Shared, Took};
 use broker_steps::{PeerStep, Stamp, Step};
 use std::alloc::Global;
 use std::test::Fail;

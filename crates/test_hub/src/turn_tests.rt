@@ -1,14 +1,14 @@
 //! Threads make turns, each in the order of its thread.
 ghost use Rattle.std.specs.Prelude.{◌≡◌, ◌+◌, ◌<◌, ◌^◌, [], Some, IfOk};
-ghost use Rattle.turn_lock.specs.Sights.{after_split, fresh_seat};
+ghost use Rattle.hub_lock.specs.Sights.{after_split, fresh_seat};
 
 use crate::equal::equal_at;
+use hub_lock::{Seat, Story, Turn};
 use std::alloc::Global;
 use std::sync::Wait;
 use std::test::Fail;
 use std::thread;
 use std::thread::{Threads, map_vec};
-use turn_lock::{Seat, Story, Turn};
 use wio_core::NoMemory;
 
 /// A call of a seat: the calls of each have the values from 0 on.

@@ -1,6 +1,6 @@
 //! Acts from text, and a relay that takes them.
 ghost use Rattle.std.specs.Prelude.{◌≡◌, true};
-ghost use Rattle.relay_objects.specs.Fits.{FitsMessage};
+ghost use Rattle.relay_core.specs.Fits.{FitsMessage};
 
 use relay_core::{Post, Relay};
 use relay_model::{Act, Told};
@@ -8,7 +8,7 @@ use session_text::{Form, Line, read_line};
 use std::alloc::Global;
 use std::process::Abort;
 use std::test::Fail;
-use wio_core::NoMemory;
+use wl_wire::NoMemory;
 
 /// A method serves, and the field 3 holds the seat.
 pub(crate) const OPENING: &str =

@@ -9,8 +9,7 @@ use relay_model::{EndCause, Role};
 use std::alloc::Global;
 use std::process::Abort;
 use std::test::Fail;
-use wio_core::NoMemory;
-use wl_wire::Bytes;
+use wl_wire::{Bytes, NoMemory};
 
 const GIVEN: Stamp = Stamp {
     moment: 7,

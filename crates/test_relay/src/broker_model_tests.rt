@@ -1,6 +1,6 @@
 //! What no clause tells: that memory is found, and that a journal is used as its callers use it.
 use crate::equal::equal;
-use broker_model::{Entry, Journal, Kept, StampList};
+use broker_core::{Entry, Journal, Kept, StampList};
 use broker_steps::{Limits, ShellStep, Stamp, TokenList, WEIGHT_LIMIT};
 use relay_model::{EndCause, Role};
 use std::alloc::Global;

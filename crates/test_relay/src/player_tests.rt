@@ -7,8 +7,7 @@ use relay_model::Role;
 use seat_set::{PlayEnd, Player, SeatLine, SeatSet};
 use session_text::SessionLine;
 use std::test::Fail;
-use wio_core::{MemSink, MemSource, Source};
-use wl_wire::Bytes;
+use wl_wire::{Bytes, MemSink, MemSource, Source};
 
 const GIVEN: Stamp = Stamp {
     moment: 7,

@@ -1,10 +1,10 @@
 //! What no clause tells: that memory is found, and that a group is gathered as its callers gather it.
 use crate::equal::equal;
-use broker_audience::{Gathering, Live};
+use audit_fields::Event;
+use broker_core::{Gathering, Live};
 use relay_model::Role;
 use std::process::Abort;
 use std::test::Fail;
-use wl_proto::Event;
 
 const KEYMAP: Event<'static> = Event::Keymap {
     format: 1,

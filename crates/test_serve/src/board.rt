@@ -1,10 +1,10 @@
 //! A gate that holds a reader, and an output that may let it go.
-use hub_lock::Gate;
+use serve_net::{Failed, MemSink, Sink};
+use serve_run::Gate;
 use std::alloc::Global;
 use std::sync::Arc;
 use std::sync::atomic::{AtomicU64, Ordering};
 use std::thread;
-use wio_core::{Failed, MemSink, Sink};
 
 /// How many turns a test waits at most for another thread.
 const TURNS: u64 = 1_000_000_000;

@@ -2,14 +2,13 @@
 use crate::board::Hold;
 use crate::equal::{equal, equal_at};
 use crate::server::{output_of, serve_mem, words};
-use serve_net::{Door, MemLink, MemNet};
+use serve_net::{Door, MemLink, MemNet, MemSink, MemSource};
 use serve_run::ServeStatus;
 use std::alloc::Global;
 use std::process::Abort;
 use std::sync::{Arc, Wait};
 use std::test::Fail;
 use std::thread::Threads;
-use wio_core::{MemSink, MemSource};
 
 /// A frame with one message, `get_registry`.
 const REGISTRY: [u8; 16] = [12, 0, 0, 0, 1, 0, 0, 0, 1, 0, 12, 0, 2, 0, 0, 0];
@@ -76,7 +75,7 @@ static ROWS: [Row; 10] = [
     },
     // an accept that fails: the links before it are served, and the session is written
     Row {
-        line: "serve --app a --method m --shell s --order sss --entries 99",
+        line: "serve --app a --method m --shell s --order sss --entries 99 --wait 60",
         links: "sss",
         fails: [&[2], &[], &[]],
         hold: Hold::Nobody,
@@ -136,7 +135,7 @@ static ROWS: [Row; 10] = [
 ];
 
 /// Words that are in no grammar: nothing is done.
-static BAD_WORDS: [&str; 12] = [
+static BAD_WORDS: [&str; 13] = [
     "serve",
     "replay",
     "serve --app a --app b --method m --shell s --order a",
@@ -145,6 +144,7 @@ static BAD_WORDS: [&str; 12] = [
     "serve --app a --method m --shell s --order a --entries 0",
     "serve --app a --method m --shell s --order a --entries 4000001",
     "serve --app a --method m --shell s --order a --store 01",
+    "serve --app a --method m --shell s --order a --wait 0",
     "serve --app -a --method m --shell s --order a",
     "serve --app=a --method m --shell s --order a",
     "serve --app a --method m --shell s --order a --help",

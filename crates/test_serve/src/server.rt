@@ -1,10 +1,9 @@
 //! Runs of the server over links in memory and over Unix sockets, and replays of what it records.
 use crate::board::{Board, Hold, Output};
 use program_run::run_plain;
-use serve_jobs::LinkJob;
-use serve_net::{MemIn, MemNet, MemOut};
+use serve_net::{MemIn, MemNet, MemOut, MemSink, MemSource};
 use serve_run::{ServeStatus, run_serve};
-use serve_unix::{ThreadSpawner, UnixNet, UnixSink, UnixSource, begin_job};
+use serve_unix::{LinkJob, ThreadSpawner, UnixNet, UnixSink, UnixSource, begin_job};
 use std::alloc::{AllocError, Global};
 use std::fs::{File, Files};
 use std::net::Net;
@@ -12,7 +11,6 @@ use std::sync::atomic::{AtomicU64, Ordering};
 use std::sync::{Arc, Wait};
 use std::test::Fail;
 use std::thread::Threads;
-use wio_core::{MemSink, MemSource};
 
 /// The most bytes that an output holds.
 const ROOM: usize = 4_194_304;

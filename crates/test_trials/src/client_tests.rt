@@ -1,11 +1,11 @@
 //! A field's client and a method's client in a small session, each beside one that is heard, against the bytes of its
 //! transcript.
 use crate::equal::{equal, equal_at};
-use client_side::{ClientFault, FieldClient, FieldHearer, MethodClient, MethodHearer};
-use compose_method::{ComposeTable, Method};
+use client_side::{
+    BatchView, ClientFault, Edit, FieldClient, FieldHearer, MethodClient, MethodHearer,
+};
+use compose_method::{ComposeTable, Event, Method};
 use std::test::Fail;
-use trial_field::{BatchView, Edit};
-use wl_proto::Event;
 
 /// The rest of an enter.
 const ENTER: [u8; 7] = [0, 12, 0, 6, 0, 0, 0];

@@ -3,12 +3,12 @@ use crate::equal::{equal, equal_at};
 use crate::gate::Meets;
 use program_run::Status;
 use program_threads::run_threads;
+use serve_record::MemSink;
 use std::alloc::Global;
 use std::process::Abort;
 use std::sync::Wait;
 use std::test::Fail;
 use std::thread::Threads;
-use wio_core::MemSink;
 
 // Runs the line's words over a sink where the writes with these numbers fail.
 fn run<R: Abort + Threads + Wait + Sync>(

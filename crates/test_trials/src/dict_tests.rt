@@ -3,12 +3,11 @@ ghost use Rattle.compose_method.specs.Table.{IsKeyText};
 ghost use Rattle.dict_method.specs.Dictionary.{AreWordKeys};
 
 use crate::equal::equal_at;
-use compose_method::{ComposeTable, TableRefusal};
+use compose_method::{ComposeTable, Event, TableRefusal};
 use dict_method::{Control, Dict, DictMethod, MAX_WORDS};
 use std::alloc::Global;
 use std::process::Abort;
 use std::test::Fail;
-use wl_proto::Event;
 
 /// A press with the string and the preedit of its batch, presses that each give some batch, one that gives none, an event, or
 /// what the candidates are then: how many, and the one with the number.

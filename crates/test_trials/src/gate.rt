@@ -1,7 +1,7 @@
 //! A gate that holds fields' jobs.
-use hub_lock::Gate;
 use std::sync::atomic::{AtomicU64, Ordering};
 use std::thread;
+use trial_threads::Gate;
 
 /// How many turns a test waits at most for another thread.
 const TURNS: u64 = 1_000_000_000;

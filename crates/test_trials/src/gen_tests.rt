@@ -1,14 +1,13 @@
 //! Generated sessions and drawn scripts, against what a program worked out which shares nothing with this one; and where
 //! scripts end.
 use crate::equal::{equal, equal_at};
-use program_gen::{WriteEnd, count, write_session};
-use session_gen::{Gen, STEPS};
+use program_gen::{Gen, STEPS, WriteEnd, count, write_session};
+use program_run::{Ending, read_script};
+use program_threads::drawn_script;
+use serve_record::MemSink;
 use std::alloc::Global;
 use std::process::Abort;
 use std::test::Fail;
-use trial_gen::drawn_script;
-use trial_script::{Ending, read_script};
-use wio_core::MemSink;
 
 // The second write fails in the second run: what was written is a front then.
 #[test]

@@ -3,16 +3,17 @@
 //! it, and no other thing. And scripts that are too long for a file of cases, in one thread.
 use crate::equal::{equal, equal_at};
 use crate::gate::Meets;
+use crate::plain::{acts_in, field_of_peer, told_to};
 use crate::scripts::{lines, script_of};
 use crate::told::{heard_in, replayed, told_in};
+use relay_plain::plain_told;
 use std::alloc::Global;
 use std::process::Abort;
 use std::sync::Wait;
 use std::test::Fail;
 use std::thread::Threads;
 use trial_client_logs::field_of;
-use trial_run::run_trial;
-use trial_threads::{ThreadTrial, ThreadTrialEnd, run_trial_threads};
+use trial_threads::{ThreadTrial, ThreadTrialEnd, run_trial, run_trial_threads};
 
 // The trial is played to its end.
 fn play<R: Threads + Wait + Sync>(
@@ -148,6 +149,40 @@ fn play_ten<R: Abort + Threads + Wait + Sync>(
         things = things.saturating_add(count);
     }
     equal(rt, things > 0, true);
+    Ok(())
+}
+
+// In the trial of the number each field's log has what the slow evaluator tells the field of the session's acts. Answers how
+// many things that were.
+fn agree_by_the_rules<R: Abort + Threads + Wait + Sync>(
+    rt: &R,
+    alloc: Global,
+    number: u64,
+) -> Result<u64, Fail> {
+    let script = script_of(alloc, number, 2, 40)?;
+    let trial = play(rt, alloc, script.as_str(), &Meets::new(false))?;
+    let acts = acts_in(alloc, &trial.session)?;
+    assert!(rt; acts.len() < 4294967296);
+    let told = plain_told(alloc, &acts)?;
+    let mut things = 0u64;
+    let mut peer = 2u32;
+    for log in trial.logs.as_slice() {
+        let (text, count) = told_in(alloc, log)?;
+        let wanted = told_to(alloc, &told, field_of_peer(&acts, peer))?;
+        equal_at(rt, &(number, peer), text.as_str(), wanted.as_str());
+        things = things.saturating_add(count);
+        peer = peer.saturating_add(1);
+    }
+    Ok(things)
+}
+
+#[test]
+fn fields_are_told_what_the_rules_say(rt: HostRuntime) -> Result<(), Fail> {
+    let mut things = 0u64;
+    for number in 0u64..8 {
+        things = things.saturating_add(agree_by_the_rules(&rt, rt.alloc(), number)?);
+    }
+    equal(&rt, things > 20, true);
     Ok(())
 }
 

@@ -1,23 +1,28 @@
 //! What a field is told: by a log, and by a replay of the session that the log's trial made.
 use client_side::FieldClient;
-use hub_lock::Session;
 use program_run::run_plain;
-use serve_record::write_record;
+use serve_record::{MemSink, MemSource, write_record};
 use std::alloc::Global;
 use std::test::Fail;
 use trial_client_logs::{FieldEntry, FieldLog, hear_field};
-use wio_core::{MemSink, MemSource};
+use trial_threads::Session;
 
 /// The most bytes of a session and of its transcript.
 const ROOM: usize = 4_194_304;
 
-/// What a replay of the session writes.
-pub fn replayed(alloc: Global, session: &Session) -> Result<MemSink, Fail> {
+/// The session as it is recorded.
+pub fn recorded(alloc: Global, session: &Session) -> Result<MemSink, Fail> {
     if session.stamps.len() != session.journal.len() {
         return Err(Fail::new("an entry has no stamp"));
     }
     let mut record = MemSink::new(alloc, ROOM, Vec::new(alloc))?;
     write_record(alloc, session, &mut record)?;
+    Ok(record)
+}
+
+/// What a replay of the session writes.
+pub fn replayed(alloc: Global, session: &Session) -> Result<MemSink, Fail> {
+    let record = recorded(alloc, session)?;
     let mut input = MemSource::new(record.held().to_vec(alloc)?, 4096, Vec::new(alloc));
     let mut words = Vec::new(alloc);
     words.push(String::from_str(alloc, "replay")?)?;

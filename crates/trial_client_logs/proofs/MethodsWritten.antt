@@ -2,7 +2,7 @@
 use Rattle.std.proofs.Common.{◌≡◌, ℕ, Bool, true, false, List, [], ◌∷◌, ◌++◌, Result, Ok, Err, OnOk, OnErr, refl, sym, ap, subst, ◌∙◌}
 use Rattle.std.specs.Prelude.{is_err}
 use Rattle.wl_proto.specs.declared.event.Event.{Event}
-use Rattle.compose_method.specs.Typists.{Meanings}
+use Rattle.trial_script.specs.Typists.{Meanings}
 use Rattle.client_side.specs.Client.{Client}
 use Rattle.client_side.specs.Client as client
 use Rattle.client_side.specs.Events.{method_objects}

@@ -1,6 +1,6 @@
 -- What a log has of what its client hears
 use Rattle.std.specs.Prelude.{◌≡◌, ℕ, true, false, List, [], ◌++◌}
-use Rattle.wl_wire.specs.Messages.{IsPartial, joined}
+use Rattle.wl_proto.specs.Messages.{IsPartial, joined}
 use Rattle.wl_proto.specs.declared.interface.Interface.{Interface}
 use Rattle.wl_proto.specs.declared.event.Event.{Event}
 use Rattle.client_side.specs.Client.{Client, Step, after_all, IsWrong}

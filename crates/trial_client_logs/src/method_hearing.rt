@@ -9,9 +9,9 @@ ghost use Rattle.trial_client_logs.specs.Hearing.{Accepts, Refuses, HearsSome};
 use crate::heard_event::HeardEvent;
 use crate::method_log::{MethodEntry, MethodLog};
 use client_side::{ClientFault, MethodClient, MethodHearer};
-use compose_method::Typist;
 use std::alloc::Global;
 use std::mem::replace;
+use trial_script::Typist;
 use wl_proto::Event;
 
 /// A log that hears the method's client. Once memory lacked nothing more is written down.

@@ -7,7 +7,7 @@ use std::alloc::Global;
 use trial_field::{BatchView, Edit};
 use trial_script::{Edits, FieldEdit};
 use wio_core::NoMemory;
-use wl_wire::Text;
+use wl_proto::Text;
 
 /// The edit as the field takes it.
 pub fn edit_view(edit: &FieldEdit) -> Edit<'_>

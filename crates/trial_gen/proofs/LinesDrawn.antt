@@ -3,7 +3,7 @@ use Rattle.std.proofs.Common.{◌≡◌, ℕ, zero, suc, ◌+◌, ◌-◌, ◌%�
 use Rattle.std.specs.List.{range_with_len}
 use Rattle.std.specs.Str.{is_utf8, chars}
 use Rattle.std.proofs.lemmas.List.FromFn.{get_or-map-range_with_len}
-use Rattle.wl_wire.specs.Texts.{IsText, is_text}
+use Rattle.dict_method.specs.Texts.{IsText, is_text}
 use Rattle.session_text.proofs.LinesSplit.{lacks, AllLack, IsOutside, decimal_lacks, hex_lacks, join_lacks, total, length-join}
 use Rattle.session_text.proofs.WordKinds.{numbers}
 use Rattle.trial_script.specs.declared.action.Action.{Action}

@@ -2,7 +2,7 @@
 -- each of 400 words of the generator that the number seeds.
 use Rattle.std.specs.Prelude.{ℕ, ◌+◌, ◌/◌, ◌%◌, ◌==◌, if◌then◌else◌, List, [], ◌∷◌, ◌++◌, map}
 use Rattle.std.specs.List.{range_with_len}
-use Rattle.compose_method.specs.Table.{single}
+use Rattle.dict_method.specs.Table.{single}
 use Rattle.dict_method.specs.Dictionary.{empty_dictionary}
 use Rattle.session_gen.specs.Generated.{word_after}
 use Rattle.trial_script.specs.declared.action.Action.{Action}

@@ -1,2 +1,3 @@
 pub mod Drawn
 pub mod Laws
+pub use Rattle.session_gen.specs.Generated

@@ -5,7 +5,7 @@ use Rattle.std.specs.List.{AllByRecursion, list_any}
 use Rattle.wl_proto.specs.declared.interface.Interface.{Interface}
 use Rattle.wl_proto.specs.declared.interface.Interface.TheVariants as interface
 use Rattle.wl_proto.specs.Grammar.{Value, word, signed, text, token}
-use Rattle.popup_place.specs.declared.geometry.Rect.{Rect}
+use Rattle.relay_model.specs.Rect.{Rect}
 use Rattle.relay_model.specs.declared.act.Act.{Act}
 use Rattle.relay_model.specs.declared.act.Act.TheVariants as acts
 use Rattle.relay_model.specs.declared.role.Role.{Role}

@@ -17,3 +17,4 @@ pub mod KeysTold
 pub mod PutSpelled
 pub mod MethodAll
 pub mod BadEvents
+pub use Rattle.wl_proto.proofs.WrittenIsWhole

@@ -19,7 +19,7 @@ use Rattle.broker_model.specs.Ids.{Made}
 use Rattle.broker_model.specs.Out.{act_at, out_for}
 use Rattle.broker_model.specs.Resolve.{means, past_of, resolve}
 use Rattle.broker_model.proofs.IdsAreNames.{IsIn, made_with}
-use Rattle.broker_audience.specs.Tells.{IsShort}
+use Rattle.broker_telling.specs.Tells.{IsShort}
 use Rattle.broker_core.proofs.ActTextsFit.{act_fits}
 use Rattle.broker_core.proofs.ToldMessagesFit.{all_short}
 use Rattle.client_side.specs.Events.{object_in, field_objects, IsEventOf, IsEventTo}

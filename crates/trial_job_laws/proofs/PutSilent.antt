@@ -30,7 +30,7 @@ use Rattle.broker_model.specs.Resolve.{Meaning, label_at, of_request, of_reading
 use Rattle.broker_model.proofs.IdsAreNames.{IsIn, found, made_with}
 use Rattle.broker_model.proofs.LivePeersJoined.{joined_stays, length_log, plain_row}
 use Rattle.broker_model.proofs.MadeObjectsStand.{sound}
-use Rattle.broker_audience.specs.Tells.{IsShort}
+use Rattle.broker_telling.specs.Tells.{IsShort}
 use Rattle.broker_core.proofs.ActTextsFit.{act_fits}
 use Rattle.broker_core.proofs.ToldMessagesFit.{all_short}
 use Rattle.trial_field.specs.Log.{Batch}

@@ -4,3 +4,7 @@ pub mod MethodTold
 pub mod ShellTold
 pub mod JobLaws
 pub mod OneTrial
+pub use Rattle.trial_laws.specs.TypedLogs
+pub use Rattle.trial_laws.specs.MethodLaws
+pub use Rattle.wl_proto.specs.Grammar
+pub use Rattle.wl_proto.specs.Spelling

@@ -7,7 +7,7 @@ use Rattle.trial_script.specs.declared.action.Edits.{Edits}
 use Rattle.client_side.specs.Messages.{Sent, spelled, method_setup}
 use Rattle.trial_client_logs.specs.Logs.{batch_of}
 use Rattle.trial_client_logs.specs.MethodLogs.{method_log}
-use Rattle.broker_model.specs.declared.journal.Entry.{Entry as JournalEntry}
+use Rattle.hub_lock.specs.Entry.{Entry as JournalEntry}
 use Rattle.hub_lock.specs.declared.step.OuterStep.{OuterStep}
 use Rattle.hub_lock.specs.Passes.{HubId}
 use Rattle.hub_calls.specs.Made.{entries_by}

@@ -1,8 +1,8 @@
 -- What the method's job leaves after each of its parts
 use Rattle.std.proofs.Common.{◌≡◌, ℕ, Bool, true, false, List, [], ◌++◌, map, Ok, Err, sym, ap, subst, inl, inr, append-nil, take}
-use Rattle.relay_model.specs.declared.act.EndCause.{EndCause}
+use Rattle.trial_run.specs.EndCause.{EndCause}
 use Rattle.broker_steps.specs.declared.limits.Limits.{Limits}
-use Rattle.broker_model.specs.declared.journal.Entry.{Entry as JournalEntry}
+use Rattle.hub_lock.specs.Entry.{Entry as JournalEntry}
 use Rattle.trial_field.specs.Log.{Batch}
 use Rattle.client_side.specs.Client.{Client, IsWrong}
 use Rattle.client_side.specs.Events.{method_objects}

@@ -1,6 +1,6 @@
 -- What the method's client heard of the bytes that came, by its log
 use Rattle.std.specs.Prelude.{◌≡◌, ◌≤◌, ℕ, List, [], ◌∷◌, ◌++◌, false, length, map, Result, Ok, Err}
-use Rattle.wl_wire.specs.Messages.{IsPartial, joined}
+use Rattle.broker_steps.specs.Messages.{IsPartial, joined}
 use Rattle.wl_proto.specs.declared.event.Event.{Event}
 use Rattle.trial_field.specs.Log.{Batch}
 use Rattle.trial_field.specs.declared.batch_view.TheConstants.{MAX_STRING, MAX_PREEDIT}

@@ -1,9 +1,9 @@
 -- The law of the method's job
 use Rattle.std.specs.Prelude.{◌≡◌, ◌⊎◌, ℕ, List, [], map, take, false, Result, Ok, Err}
 use Rattle.wl_proto.specs.declared.event.Event.{Event}
-use Rattle.relay_model.specs.declared.role.Role.TheVariants.{Method}
+use Rattle.trial_run.specs.Role.TheVariants.{Method}
 use Rattle.broker_steps.specs.declared.limits.Limits.{Limits}
-use Rattle.compose_method.specs.Table.{IsTable}
+use Rattle.dict_method.specs.Table.{IsTable}
 use Rattle.dict_method.specs.Dictionary.{IsDictionary}
 use Rattle.trial_field.specs.Log.{Batch}
 use Rattle.client_side.specs.Client.{Client, IsWrong}

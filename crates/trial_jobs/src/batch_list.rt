@@ -2,10 +2,10 @@
 ghost use Rattle.std.specs.Prelude.{◌≡◌, ◌++◌, ◌∷◌, [], All, OnOk, OnErr};
 ghost use Rattle.trial_script.specs.Grammar.{AreEdits};
 
+use broker_steps::NoMemory;
 use std::alloc::Global;
 use std::marker::Model;
 use trial_script::Edits;
-use wio_core::NoMemory;
 
 /// The edits that the method's user commits, each as a line of a script can give them. Contracts see
 /// a list of them.

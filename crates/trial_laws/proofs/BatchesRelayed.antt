@@ -37,7 +37,7 @@ use Rattle.broker_model.proofs.LivePeersJoined.{length_log}
 use Rattle.broker_model.proofs.MadeObjectsStand.{sound}
 use Rattle.broker_model.proofs.BatchGroupsWhole.{whole_groups}
 use Rattle.relay_objects.specs.Fits.{FitsMessage}
-use Rattle.broker_audience.specs.Tells.{IsShort}
+use Rattle.broker_telling.specs.Tells.{IsShort}
 use Rattle.broker_core.proofs.ActTextsFit.{IsBodyShort, act_fits}
 use Rattle.broker_core.proofs.ToldMessagesFit.{all_short}
 use Rattle.broker_model.proofs.EachElement.{either_way, each_append}

@@ -24,7 +24,7 @@ use Rattle.client_side.specs.Happenings.{Happening, edited, batch, entered, left
 use Rattle.client_side.specs.FieldState.{logged}
 use Rattle.broker_model.specs.Ids.{Made}
 use Rattle.broker_model.specs.Groups.{message_of}
-use Rattle.broker_audience.specs.Tells.{IsShort}
+use Rattle.broker_telling.specs.Tells.{IsShort}
 use Rattle.trial_run.specs.Hearing.{event_read, event_to, event_in}
 use Rattle.trial_run.proofs.EventsBack.{event_back}
 use Rattle.trial_laws.specs.FieldLogs.{then_events, events_in, waiting_after, happenings}

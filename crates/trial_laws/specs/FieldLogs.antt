@@ -3,10 +3,9 @@ use Rattle.std.specs.Prelude.{ℕ, zero, suc, ◌-◌, ◌==◌, List, [], ◌�
 use Rattle.std.specs.List.{slice_get}
 use Rattle.broker_steps.specs.declared.limits.Limits.{Limits}
 use Rattle.wl_proto.specs.declared.event.Event.{Event}
-use Rattle.trial_field.specs.Log.{Batch, Entry}
+use Rattle.trial_field.specs.Log.{Entry}
 use Rattle.client_side.specs.Events.{field_objects}
-use Rattle.client_side.specs.Happenings.{Happening, edited, batch, entered, left}
-use Rattle.client_side.specs.FieldState.{new_state, after_event, logged}
+use Rattle.client_side.specs.Happenings.{Happening, edited}
 use Rattle.broker_model.specs.declared.journal.Entry as journals
 use Rattle.broker_model.specs.Out.{out_for}
 use Rattle.trial_script.specs.declared.action.Action.{Action}
@@ -17,6 +16,7 @@ use Rattle.trial_run.specs.Ran.{Ran}
 use Rattle.trial_run.specs.Play.{TrialPlay, text_at}
 use Rattle.trial_run.specs.Lines.{edit_of, show_line}
 use Rattle.trial_run.specs.Trial.{trial_played}
+pub use Rattle.client_side.specs.HappenedLists.{told_in, waiting_after, happenings}
 
 -- ---- what a log has
 
@@ -25,14 +25,6 @@ abbrev pub edits_in : List Happening → List Entry
 edits_in [] = []
 edits_in (edited edit ∷ older) = edits_in older ++ edit ∷ []
 edits_in (_ ∷ older) = edits_in older
-
--- the rest of it, in order: batches, enters and leaves
-abbrev pub told_in : List Happening → List Happening
-told_in [] = []
-told_in (edited edit ∷ older) = told_in older
-told_in (batch edits serial ∷ older) = told_in older ++ batch edits serial ∷ []
-told_in (entered ∷ older) = told_in older ++ entered ∷ []
-told_in (left ∷ older) = told_in older ++ left ∷ []
 
 -- ---- what a client heard
 
@@ -50,16 +42,6 @@ then_events (Some event) more = event ∷ more
 abbrev pub events_in : List (List ℕ) → List Event
 events_in [] = []
 events_in (m ∷ ms) = then_events (event_in field_objects m) (events_in ms)
-
--- the edits that wait for their done after an event
-abbrev pub waiting_after : Event → Batch → Batch
-waiting_after event waiting = (after_event event (record new_state { pending = waiting })).pending
-
--- what events make happen to a field, in order, where such edits wait
-abbrev pub happenings : List Event → Batch → List Happening
-happenings [] waiting = []
-happenings (event ∷ more) waiting =
-    logged event waiting [] ++ happenings more (waiting_after event waiting)
 
 -- ---- what a script has
 

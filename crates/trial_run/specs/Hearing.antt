@@ -1,7 +1,7 @@
 -- What a client makes of the bytes that it took: it hears the events that they spell, one after the
 -- other.
-use Rattle.std.specs.Prelude.{ℕ, List, [], ◌∷◌, ◌++◌, length, drop, Bool, true, false, not, ◌&&◌, ◌||◌, nat_le, if◌then◌else◌, Option, Some, None, Result, Ok, Err}
-use Rattle.wl_wire.specs.Messages.{size_of, id_of, opcode_of, body_of, is_good, messages, joined}
+use Rattle.std.specs.Prelude.{ℕ, List, [], ◌∷◌, ◌++◌, length, Bool, true, false, not, ◌&&◌, ◌||◌, nat_le, if◌then◌else◌, Option, Some, None, Result, Ok, Err}
+use Rattle.wl_wire.specs.Messages.{size_of, id_of, opcode_of, body_of, is_good, messages}
 use Rattle.wl_proto.specs.declared.interface.Interface.{Interface}
 use Rattle.wl_proto.specs.declared.refuse.Refuse.{Refuse}
 use Rattle.wl_proto.specs.declared.event.Event.{Event}
@@ -10,6 +10,7 @@ use Rattle.wl_proto.specs.Reading.{event_reading}
 use Rattle.client_side.specs.Events.{object_in}
 use Rattle.client_side.specs.Client.{Client, Step}
 use Rattle.trial_run.specs.Events.{event_of}
+pub use Rattle.wl_wire.specs.Messages.{behind}
 
 abbrev pub event_read : Result Message Refuse → Option Event
 event_read (Ok m) = event_of m
@@ -37,10 +38,6 @@ heard_next step (Some event) s next = next (step event s)
 abbrev pub heard : {S : Type 0} → Step S → List Interface → List (List ℕ) → S → Heard S
 heard step objects [] s = record { state = s; is_bad = false }
 heard step objects (m ∷ ms) s = heard_next step (event_in objects m) s (heard step objects ms)
-
--- what stands behind the whole messages
-abbrev pub behind : List ℕ → List ℕ
-behind bytes = drop (length (joined (messages bytes))) bytes
 
 -- the bytes begin with a header whose size is bad
 abbrev pub has_bad_size : List ℕ → Bool

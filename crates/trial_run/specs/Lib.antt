@@ -8,3 +8,12 @@ pub mod Rounds
 pub mod Lines
 pub mod Trial
 pub mod Working
+pub use Rattle.broker_core.specs.Broker
+pub use Rattle.broker_model.specs.declared.journal.Kept
+pub use Rattle.relay_model.specs.declared.act.EndCause
+pub use Rattle.relay_model.specs.Objects
+pub use Rattle.client_side.specs.FieldLog
+pub use Rattle.trial_script.specs.declared.script.Ending
+pub use Rattle.trial_script.specs.Scripts
+pub use Rattle.relay_model.specs.declared.role.Role
+pub use Rattle.session_text.specs.Words

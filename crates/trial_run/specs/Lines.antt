@@ -6,19 +6,16 @@ use Rattle.session_text.specs.Words.{hex_word}
 use Rattle.broker_steps.specs.declared.step.ShellStep.{ShellStep}
 use Rattle.broker_steps.specs.declared.step.ShellStep.TheVariants as shell
 use Rattle.trial_field.specs.Log.{Batch}
-use Rattle.trial_field.specs.Log as field
 use Rattle.trial_field.specs.FieldText.{FieldText, whole}
 use Rattle.trial_script.specs.declared.action.Action.{Action}
 use Rattle.trial_script.specs.declared.action.Action.TheVariants as actions
-use Rattle.trial_script.specs.declared.action.FieldEdit.{FieldEdit}
-use Rattle.trial_script.specs.declared.action.FieldEdit.TheVariants as edit
-use Rattle.trial_script.specs.declared.action.Edits.{Edits}
 use Rattle.broker_model.specs.declared.journal.Entry.TheVariants as entries
 use Rattle.trial_run.specs.declared.whose.Whose.TheVariants as whose
 use Rattle.trial_run.specs.Ran.{Ran, went, ◌>>=◌}
 use Rattle.trial_run.specs.Steps.{stepped}
 use Rattle.trial_run.specs.Play.{TrialPlay, edits, commits, pauses, text_at}
 use Rattle.trial_run.specs.Rounds.{with_broker, sends, rounds}
+pub use Rattle.trial_client_logs.specs.Logs.{edit_of, batch_of}
 
 -- the id under which each field's client has its surface
 abbrev pub surface_id : ℕ
@@ -31,22 +28,6 @@ shell_says step t = with_broker t (stepped (entries.Shell step) t.broker)
 -- it presses a key and releases it
 unfoldable pub pressed : (time key : ℕ) → TrialPlay → Ran TrialPlay
 pressed time key t = shell_says (shell.Key time key 1) t >>= shell_says (shell.Key time key 0)
-
-abbrev pub edit_of : FieldEdit → field.Entry
-edit_of (edit.Insert text) = field.inserted text
-edit_of edit.Left = field.went_left
-edit_of edit.Right = field.went_right
-edit_of edit.Rub = field.rubbed
-
-abbrev pub batch_of : Edits → Batch
-batch_of b = record {
-  before = b.before;
-  after = b.after;
-  string = b.string;
-  preedit = b.preedit;
-  begin = b.begin;
-  end = b.end;
-}
 
 -- a field as it is shown: its text, its cursor and its preedit, with a line feed
 unfoldable pub show_line : ℕ → FieldText → List ℕ

@@ -1,7 +1,6 @@
 -- Steps of the shared state: one, those of a peer's messages, and what a peer can take.
 use Rattle.std.specs.Prelude.{ℕ, List, [], ◌∷◌, length, take, Bool, not, ◌==◌, nat_le, if◌then◌else◌, Option, Some, None}
 use Rattle.relay_model.specs.declared.role.Role.{Role}
-use Rattle.wl_wire.specs.Messages.{id_of, opcode_of, body_of}
 use Rattle.broker_model.specs.declared.journal.Entry.{Entry}
 use Rattle.broker_model.specs.declared.journal.Entry.TheVariants as entries
 use Rattle.broker_model.specs.Out.{Outgoing, stored}
@@ -11,6 +10,7 @@ use Rattle.broker_model.specs.Stamps.{no_stamp}
 use Rattle.broker_core.specs.Broker.{Broker, with_step}
 use Rattle.broker_core.specs.Taking.{out_at, lives}
 use Rattle.trial_run.specs.Ran.{Ran, went, halted, ◌>>=◌}
+pub use Rattle.broker_model.specs.MessageEntries.{message_entry}
 
 -- one step, and the ends that follow from it
 unfoldable pub stepped : Entry → Broker → Ran Broker
@@ -19,10 +19,6 @@ stepped e b = if is_full b.limits b.journal e then halted b else went (with_step
 -- a peer joins, unless 64 are alive
 unfoldable pub joined : Role → Broker → Ran Broker
 joined role b = if nat_le 64 (number_alive b.journal) then went b else stepped (entries.Join role) b
-
--- a whole message of the peer with the number q
-abbrev pub message_entry : ℕ → List ℕ → Entry
-message_entry q m = entries.Message q (id_of m) (opcode_of m) (body_of m)
 
 -- the messages of a peer, one a step, as long as it is alive
 unfoldable pub messages_sent : ℕ → List (List ℕ) → Broker → Ran Broker

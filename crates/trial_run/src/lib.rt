@@ -14,6 +14,7 @@ mod trial;
 mod typist;
 mod whose;
 
+pub use client_side::TrialField;
 pub use run::{TrialEnd, run_trial};
 pub use typist::TrialTypist;
 pub use whose::Whose;

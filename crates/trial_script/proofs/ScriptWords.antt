@@ -5,7 +5,7 @@ use Rattle.std.specs.Fmt.{decimal}
 use Rattle.std.proofs.lemmas.Bool.{leb-true, le-leb}
 use Rattle.std.proofs.lemmas.List.{append-nil, drop_more, drop_all}
 use Rattle.std.proofs.lemmas.List.Elements.{All-nil, All-cons, All-head, All-tail}
-use Rattle.broker_steps.specs.Ranges.{IsWithin}
+use Rattle.session_text.specs.Ranges.{IsWithin}
 use Rattle.session_text.specs.Words.{◌>>=◌, number_of, count_of, text_of, hex_word}
 use Rattle.session_text.specs.declared.line.BadLine.{BadLine}
 use Rattle.session_text.specs.declared.line.BadLine.TheVariants as bad

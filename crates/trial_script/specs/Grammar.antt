@@ -2,7 +2,7 @@
 use Rattle.std.specs.Prelude.{ℕ, ◌^◌, ◌<◌, ◌≤◌, List, [], ◌∷◌, length, map, codes, All, IsTrue}
 use Rattle.std.specs.List.{join_with_byte}
 use Rattle.std.specs.Fmt.{decimal, signed_decimal}
-use Rattle.broker_steps.specs.Ranges.{IsWithin}
+use Rattle.session_text.specs.Ranges.{IsWithin}
 use Rattle.session_text.specs.Words.{text_limit, cursor_text_limit, IsTextWithin, fits_i32, hex_word}
 use Rattle.session_text.specs.Reading.{line_limit}
 use Rattle.trial_script.specs.declared.action.Action.{Action}

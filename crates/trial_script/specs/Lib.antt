@@ -5,3 +5,5 @@ pub mod Laws
 pub mod Lines
 pub mod Rules
 pub mod Scripts
+pub use Rattle.wio_core.specs.Io
+pub use Rattle.compose_method.specs.Typists

@@ -1,7 +1,7 @@
 //! What a script does to the fields, the method and the shell.
+use compose_method::Text;
 use std::alloc::{AllocError, Global};
 use std::marker::Model;
-use wl_wire::Text;
 
 /// What a field's own user does.
 #[derive(Debug, Drop)]

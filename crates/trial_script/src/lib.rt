@@ -11,6 +11,7 @@ mod rules;
 mod script;
 
 pub use action::{Action, Actions, Edits, FieldEdit};
+pub use compose_method::Typist;
 pub use keys::KeyList;
 pub use line::{Line, one_spelling, read_line};
 pub use rules::KeyRules;

@@ -9,9 +9,9 @@ ghost use Rattle.trial_script.specs.Reading.{line_of};
 use crate::action::Action;
 use crate::keys::KeyList;
 use crate::line_words::read_words;
+use compose_method::Text;
 use session_text::{BadLine, LINE_LIMIT};
 use std::alloc::{AllocError, Global};
-use wl_wire::Text;
 
 /// What a line of a script says.
 #[derive(Debug, Drop)]

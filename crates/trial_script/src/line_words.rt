@@ -11,10 +11,10 @@ ghost use Rattle.trial_script.specs.Reading.{line_of_words};
 use crate::action::{Action, Edits, FieldEdit};
 use crate::keys::read_keys;
 use crate::line::Line;
+use compose_method::Text;
 use session_text::words::{count, cursor_text, number, signed, text, text_within};
 use session_text::{BadLine, LINE_LIMIT};
 use std::alloc::Global;
-use wl_wire::Text;
 
 // The most fields of a trial.
 const FIELD_LIMIT: u32 = 16;

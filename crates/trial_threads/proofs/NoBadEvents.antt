@@ -24,7 +24,7 @@ use Rattle.hub_calls.specs.Submitted.{message_entry}
 use Rattle.hub_calls.proofs.PassesCounted.{steps_stay}
 use Rattle.wl_wire.specs.Messages.{messages}
 use Rattle.trial_run.specs.declared.typist.TrialTypist.{TrialTypist}
-use Rattle.trial_laws.specs.TypedLogs.{requests_of}
+use Rattle.trial_job_laws.specs.TypedLogs.{requests_of}
 use Rattle.trial_typing.specs.declared.job_end.JobEnd.{JobEnd}
 use Rattle.trial_typing.specs.declared.job_end.JobEnd.TheVariants as ends
 use Rattle.trial_typing.specs.Ends.{done_of}

@@ -19,8 +19,8 @@ use Rattle.trial_script.specs.Rules.{has_words}
 use Rattle.trial_run.specs.declared.typist.TrialTypist.{TrialTypist}
 use Rattle.trial_run.specs.declared.typist.TrialTypist.TheVariants as typists
 use Rattle.trial_run.specs.Trial.{typist_of}
-use Rattle.trial_laws.specs.MethodLaws.{IsWritten}
-use Rattle.trial_laws.specs.TypedLogs.{batches_of}
+use Rattle.trial_job_laws.specs.MethodLaws.{IsWritten}
+use Rattle.trial_job_laws.specs.TypedLogs.{batches_of}
 use Rattle.trial_typing.specs.declared.job_end.JobEnd.{JobEnd}
 use Rattle.trial_typing.specs.declared.job_end.JobEnd.TheVariants as ends
 use Rattle.trial_typing.specs.Fronts.{IsFrontOf}

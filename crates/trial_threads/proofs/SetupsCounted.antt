@@ -6,9 +6,9 @@ use Rattle.std.proofs.lemmas.List.{length-map}
 use Rattle.wl_wire.specs.Spelling.{word_bytes}
 use Rattle.wl_wire.specs.Messages.{messages, joined, AreMessages}
 use Rattle.wl_wire.proofs.MessagesHoweverCut.{longest}
-use Rattle.wl_proto.specs.Grammar.{Value}
-use Rattle.wl_proto.specs.Spelling.{values_len, spelling, row_bytes, message_len}
-use Rattle.wl_proto.proofs.WrittenIsWhole.{spelling_length}
+use Rattle.trial_job_laws.specs.Grammar.{Value}
+use Rattle.trial_job_laws.specs.Spelling.{values_len, spelling, row_bytes, message_len}
+use Rattle.trial_job_laws.proofs.WrittenIsWhole.{spelling_length}
 use Rattle.client_side.specs.Messages.{Sent, spelled, field_setup, method_setup}
 use Rattle.broker_steps.specs.declared.limits.Limits.{Limits}
 use Rattle.broker_model.specs.declared.journal.Entry.{Entry}

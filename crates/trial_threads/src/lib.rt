@@ -25,9 +25,11 @@ mod typists;
 
 pub use back::give_back;
 pub use field::begin_field;
+pub use hub_lock::{Gate, Session};
 pub use method::begin_method;
 pub use no_job::NoJob;
 pub use run::run_trial_threads;
 pub use shell::begin_shell;
 pub use trial::{FieldLogs, ThreadTrial, ThreadTrialEnd};
+pub use trial_run::run_trial;
 pub use typists::typist_by;

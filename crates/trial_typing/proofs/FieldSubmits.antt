@@ -5,7 +5,7 @@ use Rattle.relay_model.specs.declared.act.EndCause.{EndCause}
 use Rattle.broker_steps.specs.declared.limits.Limits.{Limits}
 use Rattle.broker_model.specs.declared.journal.Entry.{Entry}
 use Rattle.broker_model.specs.declared.journal.Kept.{Kept}
-use Rattle.broker_core.specs.Stands.{end_of}
+use Rattle.hub_calls.specs.Stands.{end_of}
 use Rattle.client_side.specs.FieldLog.{sends_of}
 use Rattle.client_side.specs.Happenings.{Happening}
 use Rattle.client_side.specs.Messages.{Sent, spelled, field_setup}

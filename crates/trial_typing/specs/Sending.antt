@@ -8,9 +8,9 @@ use Rattle.broker_model.specs.declared.journal.Entry.TheVariants as entries
 use Rattle.broker_model.specs.declared.journal.Kept.{Kept}
 use Rattle.broker_model.specs.Ids.{Joined, peer_at}
 use Rattle.broker_model.specs.Resolve.{past_of}
-use Rattle.broker_core.specs.Stands.{end_of}
+use Rattle.hub_calls.specs.Stands.{end_of}
 use Rattle.client_side.specs.Messages.{Sent, spelled}
-use Rattle.turn_lock.specs.Pairs.{NoneOf}
+use Rattle.hub_lock.specs.Pairs.{NoneOf}
 use Rattle.hub_lock.specs.Passes.{HubId, PeerPass, IsOf, journal_seen}
 use Rattle.hub_lock.specs.Calls.{pass_having_seen}
 use Rattle.hub_calls.specs.Made.{entries_by, journal_by, SawMore, HasEnded, IsFullFor}

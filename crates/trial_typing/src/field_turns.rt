@@ -17,7 +17,7 @@ use hub_lock::Hub;
 use std::alloc::Global;
 use std::sync::Wait;
 use trial_client_logs::{FieldLog, hear_field};
-use wio_core::NoMemory;
+use wl_wire::NoMemory;
 
 /// What waits is submitted.
 pub(crate) fn send<R: Wait>(

@@ -1,8 +1,7 @@
 //! Why a job isn't done to its end.
-use broker_core::Kept;
-use hub_calls::PassStop;
+use hub_calls::{Kept, PassStop};
 use thiserror::Error;
-use wio_core::NoMemory;
+use wl_wire::NoMemory;
 
 /// Why a job isn't done to its end.
 #[derive(Clone, Copy, Debug, PartialEq, Eq, Error)]

@@ -7,7 +7,7 @@ use broker_steps::ShellStep;
 use std::alloc::Global;
 use std::marker::Model;
 use trial_script::FieldEdit;
-use wio_core::NoMemory;
+use wl_wire::NoMemory;
 
 /// The edits that a field's own user makes, each as a line of a script can give it. Contracts see a
 /// list of them.

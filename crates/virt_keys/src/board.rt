@@ -5,10 +5,9 @@ ghost use Rattle.std.specs.FinMap as map;
 ghost use Rattle.virt_keys.specs.Routes.{of_another};
 ghost use Rattle.virt_keys.specs.Boards.{new_board, routed, turned, takes_at, mods_routed};
 
-use kbd_grab::{HeldKeys, Label, Route};
+use kbd_grab::{HeldKeys, Label, NoMemory, Route};
 use std::alloc::Global;
 use std::marker::Model;
-use wio_core::NoMemory;
 
 /// A board of a peer.
 #[derive(Debug, Drop)]

@@ -11,11 +11,10 @@ ghost use Rattle.virt_keys.specs.Boards.{new_board, routed, turned, mods_routed}
 mod peers;
 
 use crate::board::Board;
-use kbd_grab::{Label, Route};
+use kbd_grab::{Label, NoMemory, Route};
 use std::alloc::Global;
 use std::collections::BTreeMap;
 use std::marker::Model;
-use wio_core::NoMemory;
 
 /// The live boards (`zwp_virtual_keyboard_v1`), and the keys that are down on each.
 ///

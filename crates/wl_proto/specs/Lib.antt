@@ -7,3 +7,6 @@ pub mod Spelling
 pub mod Spelled
 pub mod Arguments
 pub mod Laws
+pub mod Sent
+pub mod Zero
+pub use Rattle.wl_wire.specs.Messages

@@ -7,3 +7,4 @@ pub mod Messages
 pub mod Fronts
 pub mod Streams
 pub mod Gathering
+pub use Rattle.wio_core.specs.Lines

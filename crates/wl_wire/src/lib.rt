@@ -19,6 +19,7 @@ pub use front::{Front, front_of};
 pub use laws::messages_are_longest;
 pub use raw::Raw;
 pub use text::Text;
+pub use wio_core::{Failed, MemSink, MemSource, NoMemory, Sink, Source};
 
 /// The bytes of a message's header: the object's id, the opcode, and the size of the whole message.
 pub const HEADER_SIZE: usize = 8;

@@ -5,12 +5,12 @@ mod open_gate;
 mod serve;
 mod threads;
 
-use program_run::{Status, run_plain};
+use program_threads::{Status, run_plain};
 use serve::serve;
+use serve_unix::{StdSink, StdSource};
 use std::process::ExitCode;
 use std::{env, io};
 use threads::play_threads;
-use wio_core::{StdSink, StdSource};
 
 // The words of the command line after the program's name.
 fn words<R: std::rt::Runtime + AllocGlobal>(rt: &R) -> io::Result<Vec<String>> {

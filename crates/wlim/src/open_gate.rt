@@ -1,5 +1,5 @@
 //! A gate that holds nobody.
-use hub_lock::Gate;
+use serve_run::Gate;
 
 /// Holds nobody.
 #[derive(Drop)]

@@ -1,14 +1,12 @@
 //! The server over Unix sockets and threads.
 use crate::open_gate::OpenGate;
-use serve_jobs::LinkJob;
 use serve_run::{ServeStatus, run_serve};
-use serve_unix::{ThreadSpawner, UnixNet, UnixSink, UnixSource, begin_job};
+use serve_unix::{LinkJob, Sink, ThreadSpawner, UnixNet, UnixSink, UnixSource, begin_job};
 use std::alloc::Global;
 use std::fs::{File, Files};
 use std::net::Net;
 use std::sync::{Arc, Wait};
 use std::thread::Threads;
-use wio_core::Sink;
 
 /// Serves what the words ask for over real sockets, and writes the recorded session.
 pub fn serve<R: Threads + Wait + Files<File = File> + Net + Copy + Send + Sync + 'static, K: Sink>(

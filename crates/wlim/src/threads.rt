@@ -1,11 +1,10 @@
 //! Trials in threads.
 use crate::open_gate::OpenGate;
-use program_run::Status;
-use program_threads::run_threads;
+use program_threads::{Status, run_threads};
+use serve_unix::Sink;
 use std::alloc::Global;
 use std::sync::Wait;
 use std::thread::Threads;
-use wio_core::Sink;
 
 /// Plays the trial that the words ask for in threads, and writes what its fields show.
 pub fn play_threads<R: Threads + Wait + Sync, K: Sink>(

@@ -3,7 +3,7 @@ use Rattle.std.specs.Io.KnownBytes.{Appends}
 use Rattle.std.proofs.lemmas.Grind.{merely, common_steps}
 use Rattle.wio_core.specs.Io.{StaysQuiet}
 use Rattle.wio_core.specs.Lines.{TookFrom}
-use Rattle.broker_steps.specs.declared.limits.Limits.{Limits}
+use Rattle.hub_lock.specs.Limits.{Limits}
 use Rattle.hub_lock.specs.Passes.{PeerPass}
 use Rattle.peer_link.specs.declared.ends.ReadEnd.{ReadEnd}
 use Rattle.peer_link.specs.ReadsPeer.{ReadsPeer}

@@ -5,8 +5,9 @@ use Rattle.hub_lock.specs.Passes.{HubId, PassSeat}
 use Rattle.serve_words.specs.Asked.{asked as asked'}
 use Rattle.serve_run.specs.LinkJobs.{AreOnHub, job_tagged}
 use Rattle.serve_run.specs.Ended.{IsEnded}
+use Rattle.serve_run.specs.Opened.{AreOpened}
 use Rattle.serve_run.specs.Started.{IsRootOf, LinksStarted}
-use Rattle.serve_run.proofs.StartsCounted.{rose_until}
+use Rattle.serve_run.proofs.StartsCounted.{rose_until, stay_open}
 use Rattle.serve_run.proofs.HistoryCopied.{fresh_root, ours_of}
 use Rattle.serve_run.proofs.LinksInOrder.{passes_few}
 use Rattle.serve_run.proofs.LawOfServer.{law_of}
@@ -82,7 +83,8 @@ returns g c =
         linked = c.serve_links-accepted.new.root;
         count = e.accepted.count;
         within = e.accepted.within;
-        doors = e.accepted.doors;
+        doors = f.links ∙ e.accepted.doors;
+        hung_up = f.hung_up;
         accepted = c.serve_links-accepted.result;
         links = subst
             (λ tags. LinksStarted hub c.args.root.now c.serve_links-accepted.new.root
@@ -90,12 +92,17 @@ returns g c =
             c.args.asked.now.order.now (length (g.N.Net.links c.args.net.now) + 1) e.accepted.count
             c.serve_links-accepted.result) (sym started) e.accepted.started_are;
         all = e.accepted.all;
-        opened = e.opened;
-        doors_open = e.open;
+        opened = subst
+            (λ links. AreOpened (g.N.Net.links c.args.net.now) links (g.N.Net.listens c.args.net.now)
+            (g.N.Net.listens c.finish_run.new.net) c.serve_links-accepted.result) (sym f.links)
+            (subst
+            (λ listens. AreOpened (g.N.Net.links c.args.net.now) (g.N.Net.links c.serve_links-accepted.new.net)
+            (g.N.Net.listens c.args.net.now) listens c.serve_links-accepted.result) (sym f.listens) e.opened);
+        doors_open = stay_open c.serve_links-accepted.result f.doors e.open;
         starts = ⊎_elim (λ l. inl (f.before ∙ l)) (λ r. inr (f.before ∙ r)) e.jobs.last;
-        net = e.net;
+        net = λ why. rose_until _ _ _ (e.net why) f.faults;
         threads = λ why. rose_until _ _ _ (e.jobs.threads why) f.no_refusal;
-        no_net = e.no_net;
+        no_net = λ other. f.faults ∙ e.no_net other;
         no_thread = λ other. f.no_refusal ∙ e.jobs.no_refusal other;
         collected = d.collected;
         mine = d.mine;

@@ -15,6 +15,7 @@ returns c =
     let order = c.in_ok-arg-4.ensures.shape c.option-4.ensures.local ∙ ap₂ with_rule shell c.option-4.ensures.rule in
     let entries = c.in_ok-arg-5.ensures.shape c.option-5.ensures.local ∙ ap₂ with_rule order c.option-5.ensures.rule in
     let store = c.in_ok-arg-6.ensures.shape c.option-6.ensures.local ∙ ap₂ with_rule entries c.option-6.ensures.rule in
-    IfOk-weaker c.arg-7.result _ _
-    (λ r adds. adds.shape c.option-7.ensures.local ∙ ap₂ with_rule store c.option-7.ensures.rule)
-    c.arg-7.ensures
+    let weight = c.in_ok-arg-7.ensures.shape c.option-7.ensures.local ∙ ap₂ with_rule store c.option-7.ensures.rule in
+    IfOk-weaker c.arg-8.result _ _
+    (λ r adds. adds.shape c.option-8.ensures.local ∙ ap₂ with_rule weight c.option-8.ensures.rule)
+    c.arg-8.ensures

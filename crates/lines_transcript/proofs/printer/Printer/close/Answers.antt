@@ -1,6 +1,6 @@
 use Rattle.std.proofs.Common.{sym, subst, ◌∙◌}
 use Rattle.std.specs.Prelude.{string_bytes}
-use Rattle.relay_objects.specs.Reached.{Reached}
+use Rattle.broker_core.specs.Reached.{Reached}
 use Rattle.broker_core.specs.Watched.{watched_since}
 use Rattle.lines_transcript.specs.Printed.{MayPrint, blank}
 use Rattle.lines_transcript.proofs.PrintedSteps.{printing}

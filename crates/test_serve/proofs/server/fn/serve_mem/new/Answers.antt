@@ -1,6 +1,6 @@
 use denote.Param.Send.{sendable}
 use Rattle.std.proofs.Crossing.{crosses}
-use Rattle.hub_lock.proofs.HubCrosses.{hub_sync, hub_send, reader_send, writer_send, shell_send}
+use Rattle.serve_run.proofs.HubCrosses.{hub_sync, hub_send, reader_send, writer_send, shell_send}
 use Rattle.test_serve.proofs.server.fn.serve_mem.new.Goals as goal
 
 pub begin_job-requires-send-J : goal.begin_job-requires-send-J

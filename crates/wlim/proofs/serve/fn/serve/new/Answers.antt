@@ -1,6 +1,6 @@
 use denote.Param.Send.{sendable}
 use Rattle.std.proofs.Crossing.{crosses}
-use Rattle.hub_lock.proofs.HubCrosses.{hub_crosses}
+use Rattle.serve_run.proofs.HubCrosses.{hub_crosses}
 use Rattle.wlim.proofs.serve.fn.serve.new.Goals as goal
 
 pub begin_job-requires-send-J : goal.begin_job-requires-send-J
