@@ -52,7 +52,7 @@ make_root() {
 	apt-config dump | grep -E '^Acquire::(http|https|Check)' > "$tree/etc/apt/apt.conf.d/99machine"
 	cp /etc/resolv.conf /etc/hosts "$tree/etc/"
 	mount -t proc proc "$tree/proc" && mount --rbind /dev "$tree/dev" && mount -t tmpfs tmpfs "$tree/run" || return 1
-	mkdir -p "$tree/srv" && cp "$debs"/*.deb "$tree/srv" && cp tests/clean_machine_types.sh "$tree/srv"
+	mkdir -p "$tree/srv" && cp "$debs"/*.deb "$tree/srv" && cp tests/clean_machine_types.sh conformance/suite/fcitx5.profile "$tree/srv"
 	apt update
 }
 

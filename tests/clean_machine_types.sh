@@ -5,19 +5,7 @@ cd "$HOME" || exit 1
 export XDG_RUNTIME_DIR=/run/user/1000 LC_ALL=C.UTF-8
 export WLR_BACKENDS=headless WLR_LIBINPUT_NO_DEVICES=1 WLR_RENDERER=pixman
 mkdir -p .config/fcitx5
-cat > .config/fcitx5/profile << 'PROFILE'
-[Groups/0]
-Name=Default
-Default Layout=us
-DefaultIM=pinyin
-
-[Groups/0/Items/0]
-Name=pinyin
-Layout=
-
-[GroupOrder]
-0=Default
-PROFILE
+cp /srv/fcitx5.profile .config/fcitx5/profile
 printf 'output * resolution 1280x720\n' > sway.conf
 dbus-daemon --session --fork --address=unix:path=/run/user/1000/bus
 export DBUS_SESSION_BUS_ADDRESS=unix:path=/run/user/1000/bus

@@ -6,14 +6,13 @@
 FOLDER has `compositor`, `entry` and `method`, as tests/embed_programs.sh builds them. Prints what each program got.
 """
 import os
-import random
 import signal
 import subprocess
 import sys
 import tempfile
 import time
 
-from pinyin_desk import FCITX5, Programs, keys_of, until
+from pinyin_desk import FCITX5, Programs, keys_of, moved, until
 
 KEYS = keys_of({16: "qwertyuiop", 30: "asdfghjkl", 44: "zxcvbnm", 57: " ", 28: "\n"})
 WINDOWS = {"term": "term.out", "entry": "entry.out"}
@@ -79,12 +78,7 @@ class Desk(Programs):
             code = self.compositor.wait(10)
         except (subprocess.TimeoutExpired, BrokenPipeError):
             pass
-        for process in self.started:
-            try:
-                os.killpg(process.pid, signal.SIGKILL)
-            except ProcessLookupError:
-                pass
-            process.wait(10)
+        super().end()
         return code
 
 
@@ -108,23 +102,6 @@ def typed(desk, window, keys, wanted):
     desk.type(keys)
     until(f"{window} gets {wanted!r}", lambda: desk.got(window) == before + wanted)
     print(f"{window}: {keys!r} gave {wanted!r}")
-
-
-def moved(desk, rounds):
-    """The focus moves while fcitx5 is at work: what was typed for a window comes to no other."""
-    before, pick = {window: desk.got(window) for window in WINDOWS}, random.Random(1)
-    for _ in range(rounds):
-        for window, keys in (("term", "nihao "), ("entry", "shijie ")):
-            desk.focus(window)
-            desk.type(keys)
-            time.sleep(pick.uniform(0, 0.3))
-    desk.unfocus()
-    time.sleep(1)
-    for window, word in (("term", "你好"), ("entry", "世界")):
-        came = desk.got(window)[len(before[window]):]
-        if came.replace(word, ""):
-            raise AssertionError(f"{window} got {came!r}")
-        print(f"{window}: {came.count(word)} of {rounds} words, where the focus moved within 0.3 s, and nothing else")
 
 
 def candidates(desk):
@@ -202,7 +179,7 @@ def main():
             typed(desk, "term", "\n", "\r")
             candidates(desk)
             copied(desk)
-            moved(desk, rounds)
+            moved(desk, rounds, {"term": ("nihao ", "你好"), "entry": ("shijie ", "世界")})
             killed(desk, fcitx5)
             start_fcitx5(desk)
             typed(desk, "term", "nihao ", "你好")

@@ -11,50 +11,14 @@ rounds=${2:-3}
 protocols=out/embed/protocols
 shell=out/embed/xdg-shell
 library=out/libwlim/lib
-work=$(mktemp -d)
-compositor=
-trap '[ -z "$compositor" ] || kill "$compositor"; rm -rf "$work"' EXIT
-chmod 755 "$work"
-user=
-[ "$(id -u)" != 0 ] || user="setpriv --reuid nobody --regid nogroup --clear-groups"
+. tests/speed_parts.sh
 
 build() {
-	local xml flags="-std=c11 -Wall -Wextra -Werror -O2 -I$protocols -I$shell -Iout/libwlim/include"
 	examples/embed/protocols.sh "$protocols"
-	mkdir -p "$shell"
-	xml=$(pkg-config --variable=pkgdatadir wayland-protocols)/stable/xdg-shell/xdg-shell.xml
-	wayland-scanner server-header "$xml" "$shell/xdg-shell-protocol.h"
-	wayland-scanner client-header "$xml" "$shell/xdg-shell-client-protocol.h"
-	wayland-scanner private-code "$xml" "$shell/xdg-shell-protocol.c"
-	${CC:-cc} $flags -DWLR_USE_UNSTABLE -o "$work/compositor" examples/embed/compositor.c \
-		examples/embed/wlim_glue.c "$protocols"/*-unstable-*-protocol.c "$library/libwlim.a" \
-		$(pkg-config --cflags --libs wlroots wayland-server xkbcommon pixman-1)
-	${CC:-cc} $flags -o "$work/embed_speed" tests/embed_speed.c "$protocols"/*-unstable-*-protocol.c \
-		"$shell/xdg-shell-protocol.c" $(pkg-config --cflags --libs wayland-client) -lpthread
+	build_client
 	${CC:-cc} $flags -D_POSIX_C_SOURCE=200809L -o "$work/play_acts" examples/embed/play_acts.c "$library/libwlim.a"
 	${CC:-cc} $flags -D_POSIX_C_SOURCE=200809L -o "$work/embed_act" tests/embed_act.c "$library/libwlim.a"
 	${CC:-cc} $flags -o "$work/embed_ready" tests/embed_ready.c "$library/libwlim.a"
-}
-
-# What the client prints of a compositor that is started for it: measure BATCHES SINGLES COMMAND..
-measure() {
-	local many=$1 singles=$2 tries=0 socket
-	shift 2
-	[ $SECONDS -lt 220 ] || { echo "out of time"; exit 1; }
-	export XDG_RUNTIME_DIR=$work/run
-	mkdir -m 700 "$XDG_RUNTIME_DIR"
-	[ -z "$user" ] || chown nobody "$XDG_RUNTIME_DIR"
-	$user "$@" < "$work/nothing" > "$work/log" 2>&1 3>&- &
-	compositor=$!
-	until socket=$(cd "$XDG_RUNTIME_DIR" && ls | grep -x 'wayland-[0-9]*'); do
-		[ $((tries += 1)) -lt 300 ] || { cat "$work/log"; exit 1; }
-		sleep 0.1
-	done
-	WAYLAND_DISPLAY=$socket $user "$work/embed_speed" "$many" "$singles"
-	kill "$compositor"
-	wait "$compositor" || true
-	compositor=
-	rm -r "$XDG_RUNTIME_DIR"
 }
 
 # Of each number the middle of all rounds, the least and the most; the same of the rounds' ratios.
@@ -84,16 +48,6 @@ table() {
 			row("one batch at a time, p50, us", 4, 1)
 			row("one batch at a time, p99, us", 5, 1)
 		}' "$1"
-}
-
-# Instructions that a compositor takes for a batch, the start and the end taken off: batch_instructions COMMAND..
-batch_instructions() {
-	local many counted
-	for many in 2000 10000; do
-		measure $many 0 valgrind --tool=callgrind --callgrind-out-file="$work/run/callgrind" "$@" > "$work/line"
-		counted="$(sed -n 's/.*Collected : //p' "$work/log") $counted"
-	done
-	echo "$counted" | awk '{ printf "%.0f\n", ($1 - $2) / 8000 }'
 }
 
 # So many keystrokes: the method's string and commit, the field's surrounding text and commit.
@@ -128,16 +82,12 @@ ready_instructions() {
 }
 
 build
-mkfifo "$work/nothing"
-exec 3<> "$work/nothing"
-# Without a cursor theme, whose reading would be most of sway's start.
-export WLR_BACKENDS=headless WLR_RENDERER=pixman XCURSOR_PATH=$work
-echo 'xwayland disable' > "$work/config"
 ours="$work/compositor"
 sway="sway --config $work/config"
 load="a load of $(cut -d ' ' -f 1 /proc/loadavg) on $(nproc) processors"
 echo "$batches batches and 5000 one at a time, $rounds times each, at $load; $(sway --version)"
 for round in $(seq "$rounds"); do
+	[ $SECONDS -lt 220 ] || { echo "out of time"; exit 1; }
 	measure "$batches" 5000 $ours > "$work/libwlim.line"
 	measure "$batches" 5000 $sway > "$work/sway.line"
 	(cd "$work" && sed 's/^/libwlim /' libwlim.line && sed 's/^/sway /' sway.line)

@@ -18,16 +18,25 @@ cp -r "$made/protocols" "$checked"
 gateway/build.sh "$checked" $sanitize
 core=$(ls gateway/*.c | grep -v -e /gateway.c -e /sockets.c -e /outlets.c -e /listen.c -e /check.c)
 shell=$(ls gateway/{sockets,outlets,listen,check}.c)
+parts() { # FILE..: what they are compiled to
+	for file in "$@"; do
+		echo "$checked/parts/$(basename "$file" .c).o"
+	done
+}
+mkdir -p "$checked/parts"
+for file in $core $shell "$checked/tables.c"; do
+	${CC:-cc} $flags $sanitize -I"$checked" -c -o "$(parts "$file")" "$file"
+done
 for name in fuzz order renewals popups pixels version_2 limits faults shell play loop sockets; do
 	more= wrapped= from=tests/gateway_$name.c
 	case $name in
 	renewals) wrapped=-Wl,--wrap=wlim_broker_open ;;
 	faults) wrapped=$(printf -- '-Wl,--wrap=%s ' malloc calloc realloc sendmsg recvmsg memfd_create mmap clock_gettime) ;;
-	loop | sockets) more="$shell -DOVER_SOCKETS" wrapped=-Wl,--wrap=clock_gettime ;;
+	loop | sockets) more="$(parts $shell) -DOVER_SOCKETS" wrapped=-Wl,--wrap=clock_gettime ;;
 	esac
 	[ $name != sockets ] || from=tests/gateway_fuzz.c
-	${CC:-cc} $flags $sanitize $wrapped -I"$checked" -o "$checked/$name" "$from" $more $core "$checked/tables.c" \
-		out/libwlim/lib/libwlim.a
+	${CC:-cc} $flags $sanitize $wrapped -I"$checked" -o "$checked/$name" "$from" $more $(parts $core) \
+		"$checked/parts/tables.o" out/libwlim/lib/libwlim.a
 done
 ${CC:-cc} $flags $sanitize -I"$checked" -o "$checked/units" tests/gateway_units.c \
 	gateway/{ids,keymaps,message,objects,popup_want,tokens,wire}.c "$checked/tables.c"

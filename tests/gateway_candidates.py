@@ -10,14 +10,13 @@ import glob
 import os
 import random
 import re
-import signal
 import subprocess
 import sys
-import tempfile
 import time
 
-from gateway_client import Client, Ended
-from gateway_desk import Desk, until, PAUSE
+from gateway_client import Client
+from gateway_desk import PAUSE, Desk, play
+from pinyin_desk import until
 
 SHOWN = r"popup is (?:shown|moved) (?:inside|beside) \((-?\d+), (-?\d+), (\d+), (\d+)\)"
 BUTTON_LEFT, SECOND = 0x110, (62, 15)  # where the second candidate is, of one syllable
@@ -128,6 +127,9 @@ class CandidateDesk(Desk):
         if window in ("firefox", "chromium"):
             return re.split(r" [-\u2014] ", self.titles().get(self.app(window), "-"))[0].strip("-")
         return self.read(window + ".out")
+
+    def stands(self):
+        return f"{self.windows()}; {self.shown()}"
 
     def shown(self):
         """Where the popup that is shown stands on its window, and how large it is; None: none is shown."""
@@ -262,30 +264,10 @@ def run(desk, moves, windows):
         killed(desk, method)
 
 
-def out_of_time(*_):
-    raise TimeoutError("out of time")
-
-
 def main():
-    built, moves = os.path.abspath(sys.argv[1]), int(sys.argv[2]) if len(sys.argv) > 2 else 300
+    moves = int(sys.argv[2]) if len(sys.argv) > 2 else 300
     windows = sys.argv[3:] or ["foot1", "gtk4", "gtk3", "kitty", "qt5", "qt6", "firefox", "chromium"]
-    for end in (signal.SIGALRM, signal.SIGTERM):
-        signal.signal(end, out_of_time)
-    signal.alarm(800)
-    code = 1
-    with tempfile.TemporaryDirectory() as work:
-        desk = CandidateDesk(built, work)
-        try:
-            run(desk, moves, windows)
-            code = desk.end_gateway()
-            print(f"the gateway ended with {code}")
-        except (TimeoutError, AssertionError, Ended) as error:
-            print(f"failed: {error}; {desk.windows()}; {desk.shown()}")
-            for process in desk.started:
-                print(f"-- {process.args}\n{desk.read(process.log)[-6000:]}")
-        finally:
-            desk.end()
-    return code
+    return play(CandidateDesk, lambda desk: run(desk, moves, windows), 800)
 
 
 if __name__ == "__main__":

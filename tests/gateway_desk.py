@@ -2,15 +2,16 @@
 import glob
 import json
 import os
-import random
 import re
 import shutil
 import signal
 import socket
 import struct
+import sys
+import tempfile
 import time
 
-from gateway_client import Typist, Window, tables
+from gateway_client import Ended, Typist, Window, tables
 from pinyin_desk import FCITX5, Programs, keys_of, until
 
 KEYS = keys_of({2: "1234567890", 16: "qwertyuiop", 30: "asdfghjkl", 44: "zxcvbnm", 57: " ", 28: "\n", 14: "\b",
@@ -155,6 +156,9 @@ class Desk(Programs):
     def got(self, window):
         return self.read(window + ".out")
 
+    def stands(self):
+        return self.windows()
+
     def kill(self, process):
         process.send_signal(signal.SIGKILL)
         process.wait(10)
@@ -168,14 +172,6 @@ class Desk(Programs):
         for file in os.listdir(self.work):
             if file.startswith(("session.", "taken.", "calls.")):
                 shutil.copy(self.path(file), f"{self.built}/{name}.{file}")
-
-    def end(self):
-        for process in reversed(self.started):
-            try:
-                os.killpg(process.pid, signal.SIGKILL)
-            except (ProcessLookupError, PermissionError):
-                process.kill()
-            process.wait(10)
 
 
 def typed(desk, window, keys, wanted):
@@ -196,17 +192,28 @@ def typed(desk, window, keys, wanted):
     print(f"{window}: {keys!r} gave {wanted!r}", flush=True)
 
 
-def moved(desk, rounds, words):
-    """The focus moves while the method is at work: what was typed for a window comes to no other."""
-    before, pick = {window: desk.got(window) for window in words}, random.Random(1)
-    for _ in range(rounds):
-        for window, (keys, _) in words.items():
-            desk.focus(window)
-            desk.type(keys)
-            time.sleep(pick.uniform(0, 0.3))
-    time.sleep(1)
-    for window, (_, word) in words.items():
-        came = desk.got(window)[len(before[window]):]
-        if came.replace(word, ""):
-            raise AssertionError(f"{window} got {came!r}")
-        print(f"{window}: {came.count(word)} of {rounds} words, where the focus moved within 0.3 s, and nothing else")
+def out_of_time(*_):
+    raise TimeoutError("out of time")
+
+
+def play(desk_of, run, seconds, records=None):
+    """Runs it at a desk of its own, in so many seconds at most. The gateway's status; where it fails, 1, and what all said."""
+    for end in (signal.SIGALRM, signal.SIGTERM):
+        signal.signal(end, out_of_time)
+    signal.alarm(seconds)
+    code = 1
+    with tempfile.TemporaryDirectory() as work:
+        desk = desk_of(os.path.abspath(sys.argv[1]), work)
+        try:
+            run(desk)
+            code = desk.end_gateway()
+            print(f"the gateway ended with {code}")
+        except (TimeoutError, AssertionError, Ended) as error:
+            print(f"failed: {error}; {desk.stands()}")
+            for process in desk.started:
+                print(f"-- {process.args}\n{desk.read(process.log)[-20000:]}")
+        finally:
+            desk.end()
+            if records:
+                desk.keep_records(records)
+    return code

@@ -100,7 +100,9 @@ static void files_of_lines(void)
 	outlet_names[OUT_TAKEN] = taken;
 	outlets_open();
 	HOLDS(!outlets[OUT_RECORD] && !outlets_all());
+	umask(0);
 	out_begin(1);
+	umask(0077);
 	HOLDS(outlets[OUT_RECORD] && outlets[OUT_TAKEN] && !outlets[OUT_LOG] && outlets_all());
 	out(OUT_RECORD, "%d %s\n", 1, "one");
 	out_begin(2);

@@ -16,7 +16,7 @@ import subprocess
 import sys
 import tempfile
 
-from gateway_desk import Desk, typed, until
+from gateway_desk import Desk, play, typed, until
 
 UNITS = os.path.dirname(os.path.abspath(__file__)) + "/../gateway/systemd"
 GENERATOR = "/usr/lib/systemd/user-generators/systemd-xdg-autostart-generator"
@@ -155,27 +155,12 @@ def renewed(desk):
     print("renewed: three times while fcitx5 composes; the word that was begun is lost, the next comes")
 
 
-def main():
-    built = os.path.abspath(sys.argv[1])
-    signal.alarm(200)
-    code = 1
-    with tempfile.TemporaryDirectory() as work:
-        units(built, work)
-    with tempfile.TemporaryDirectory() as work:
-        desk = Desk(built, work)
-        try:
-            activated(desk)
-            by_systemd(desk)
-            renewed(desk)
-            code = desk.end_gateway()
-        except (TimeoutError, AssertionError) as error:
-            print(f"failed: {error}")
-            for process in desk.started:
-                print(f"-- {process.args}\n{desk.read(process.log)[-20000:]}")
-        finally:
-            desk.end()
-            desk.keep_records("session")
-    return code
+def run(desk):
+    activated(desk)
+    by_systemd(desk)
+    renewed(desk)
 
 
-sys.exit(main())
+with tempfile.TemporaryDirectory() as place:
+    units(os.path.abspath(sys.argv[1]), place)
+sys.exit(play(Desk, run, 200, "session"))

@@ -1,20 +1,12 @@
 """What the tests that type pinyin by fcitx5 share: its profile, and programs in a folder that end with the test."""
 import os
+import random
+import shutil
+import signal
 import subprocess
 import time
 
-PROFILE = """[Groups/0]
-Name=Default
-Default Layout=us
-DefaultIM=pinyin
-
-[Groups/0/Items/0]
-Name=pinyin
-Layout=
-
-[GroupOrder]
-0=Default
-"""
+PROFILE = os.path.dirname(os.path.abspath(__file__)) + "/../conformance/suite/fcitx5.profile"  # pinyin alone
 FCITX5 = ("fcitx5", "--disable=notificationitem,kimpanel,xim,xcb,cloudpinyin,notifications")
 
 
@@ -32,6 +24,15 @@ def until(what, holds, seconds=20):
         time.sleep(0.01)
 
 
+def moved(desk, rounds, words):
+    """The focus moves while the method is at work: what was typed for a window comes to no other."""
+    for window, came in desk.type_while_it_moves(rounds, words).items():
+        word = words[window][1]
+        if came.replace(word, ""):
+            raise AssertionError(f"{window} got {came!r}")
+        print(f"{window}: {came.count(word)} of {rounds} words, where the focus moved within 0.3 s, and nothing else")
+
+
 class Programs:
     """Programs that were started in a folder, each with a log there and a session of its own."""
 
@@ -43,7 +44,7 @@ class Programs:
         for unset in {"DISPLAY", "WAYLAND_DISPLAY", "DBUS_SESSION_BUS_ADDRESS", "XMODIFIERS"} - set(variables):
             self.env.pop(unset, None)
         os.makedirs(work + "/config/fcitx5")
-        self.write("config/fcitx5/profile", PROFILE)
+        shutil.copyfile(PROFILE, self.path("config/fcitx5/profile"))
 
     def path(self, name):
         return f"{self.work}/{name}"
@@ -72,3 +73,24 @@ class Programs:
     def start_bus(self):
         self.start("dbus-daemon", "--session", "--nofork", "--nopidfile", f"--address=unix:path={self.path('bus')}")
         until("a bus", lambda: os.path.exists(self.path("bus")))
+
+    def type_while_it_moves(self, rounds, words):
+        """Keys for each window in turn, from which the focus goes within 0.3 s; what each got then."""
+        before, pick = {window: self.got(window) for window in words}, random.Random(1)
+        for _ in range(rounds):
+            for window, (keys, _) in words.items():
+                self.focus(window)
+                self.type(keys)
+                time.sleep(pick.uniform(0, 0.3))
+        self.unfocus()
+        time.sleep(1)
+        return {window: self.got(window)[len(before[window]):] for window in words}
+
+    def end(self):
+        """Ends all that were started, the last first."""
+        for process in reversed(self.started):
+            try:
+                os.killpg(process.pid, signal.SIGKILL)
+            except (ProcessLookupError, PermissionError):
+                process.kill()
+            process.wait(10)

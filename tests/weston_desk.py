@@ -207,12 +207,7 @@ class Desk(Programs):
             code = self.weston.wait(20)
         except subprocess.TimeoutExpired:
             code = "not at all"
-        for process in self.started:
-            try:
-                os.killpg(process.pid, signal.SIGKILL)
-            except ProcessLookupError:
-                pass
-            process.wait(10)
+        super().end()
         for pid in self.strays():
             os.kill(pid, signal.SIGKILL)
         return code

@@ -1,6 +1,5 @@
 """Trials of the plug-in for Weston: what is typed by fcitx5, the focus, the method's end."""
 import os
-import random
 import signal
 import subprocess
 import time
@@ -85,19 +84,10 @@ def words_without_pauses(desk):
 def the_focus_moves(desk):
     """40 times within 0.3 s of a word: it comes to its window or to none."""
     both(desk)
-    before, pick = {name: desk.got(name) for name in ("term", "entry")}, random.Random(1)
-    for _ in range(20):
-        for name, keys in (("term", "nihao "), ("entry", "shijie ")):
-            desk.focus(name)
-            desk.type(keys)
-            time.sleep(pick.uniform(0, 0.3))
-    desk.unfocus()
-    time.sleep(1)
-    came = 0
-    for name, word in (("term", "你好"), ("entry", "世界")):
-        new = desk.got(name)[len(before[name]):]
-        same(f"what {name} has besides its words", new.replace(word, ""), "")
-        came += new.count(word)
+    came, words = 0, {"term": ("nihao ", "你好"), "entry": ("shijie ", "世界")}
+    for name, new in desk.type_while_it_moves(20, words).items():
+        same(f"what {name} has besides its words", new.replace(words[name][1], ""), "")
+        came += new.count(words[name][1])
     print(f"    {came} of 40 words came")
     same("that words came", came > 4, True)
 

@@ -15,18 +15,7 @@ KEYS = {
     for at, letter in enumerate(row)
 }
 TAB = 15
-PROFILE = """[Groups/0]
-Name=Default
-Default Layout=us
-DefaultIM=pinyin
-
-[Groups/0/Items/0]
-Name=pinyin
-Layout=
-
-[GroupOrder]
-0=Default
-"""
+PROFILE = os.path.dirname(os.path.abspath(__file__)) + "/fcitx5.profile"  # pinyin alone
 FCITX5 = ("fcitx5", "--disable=notificationitem,kimpanel,xim,xcb,cloudpinyin,notifications")
 PLACE = "A batch reaches the field that its serial names, while that is in use, or nobody."
 
@@ -118,8 +107,7 @@ class Table:
             raise Skip("fcitx5 isn't there")
         work = self.desk.work
         os.makedirs(work + "/xdg/fcitx5", exist_ok=True)
-        with open(work + "/xdg/fcitx5/profile", "w", encoding="utf-8") as file:
-            file.write(PROFILE)
+        shutil.copyfile(PROFILE, work + "/xdg/fcitx5/profile")
         bus = f"unix:path={work}/bus"
         self.desk.start("dbus-daemon", "--session", "--nofork", "--nopidfile", "--address=" + bus)
         until("a bus", lambda: os.path.exists(work + "/bus"))
