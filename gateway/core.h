@@ -21,7 +21,8 @@ void core_close(void);
 /* A client came, of a process and its command, 0 where nobody knows which: its link, from 1, which isn't another's until
  * EFFECT_END names it. 0: it isn't let in. */
 unsigned core_join(uint64_t moment, enum role role, unsigned process, const char *command);
-/* How many bytes may come at once; 0: what came before waits, or so much is still to be written to the compositor. And a token for a descriptor; 0: there is none. */
+/* How many bytes may come at once; 0: what came before waits, or so much is still to be written to the compositor. And a
+ * token for a descriptor; 0: there is none. */
 size_t core_room(unsigned link, enum side side);
 uint32_t core_token(void);
 /* What came: bytes, however cut, and the tokens of what came with them; 0: one that couldn't be kept. */

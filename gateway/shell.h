@@ -5,7 +5,8 @@
 #include <sys/un.h>
 
 #define say(format, ...) out(OUT_PROBLEMS, format "\n", ##__VA_ARGS__)
-/* The names of files that lines go to (outlets.c); NULL: none, but of OUT_PROBLEMS. Of OUT_LOG and its text any: standard output. */
+/* The names of files that lines go to (outlets.c); NULL: none, but of OUT_PROBLEMS. Of OUT_LOG and its text any: standard
+ * output. */
 extern const char *outlet_names[OUTLETS];
 void outlets_open(void);
 bool outlets_all(void); /* whether each that has a name has a file */
